@@ -1,0 +1,2 @@
+// The definitions that every contract rests on: assignments, functions, patterns and diagrams.
+#![tactic(auto)]

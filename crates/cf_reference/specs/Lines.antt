@@ -1,0 +1,47 @@
+use Rattle.std.specs.Prelude.{ℕ, ◌≢◌, ◌+◌, ◌-◌, ◌==◌, ◌&&◌, nat_lt, nat_le, Bool, true, false, List, [], ◌∷◌, length, if◌then◌else◌}
+
+-- A line of a script: its bytes, and whether a newline ends it.
+pub record Line : Type 0 where
+  pub bytes : List ℕ
+  pub newline : Bool
+
+abbrev pub line_end : Bool → List ℕ
+line_end newline = if newline then 10 ∷ [] else []
+
+-- the bytes that a line takes up in the script, with its newline
+abbrev pub size : Line → ℕ
+size line = length line.bytes + length (line_end line.newline)
+
+-- A byte that is no newline stands before the first of the lines that follow, or is a line alone at the script's end.
+abbrev pub put_first : ℕ → List Line → List Line
+put_first b [] = record { bytes = b ∷ []; newline = false } ∷ []
+put_first b (line ∷ more) = record { bytes = b ∷ line.bytes; newline = line.newline } ∷ more
+
+-- The lines of a script: it is cut at newlines, and the last piece is a line if it has bytes.
+unfoldable pub lines : List ℕ → List Line
+lines [] = []
+lines (b ∷ rest) = if b == 10 then record { bytes = []; newline = true } ∷ lines rest else put_first b (lines rest)
+
+abbrev pub NoNewline : List ℕ → Type 0
+NoNewline [] = Unit {0}
+NoNewline (b ∷ bytes) = (b ≢ 10) × NoNewline bytes
+
+-- how a line fares by its length
+pub data Fit : Type 0 where
+  Fits : Fit
+  LineTooLong : Fit
+  ScriptTooLong : Fit
+
+-- The line begins behind `before` bytes of the script. The script is too long where its byte 1,073,741,825 is in the
+-- line or is its newline, and no earlier byte was the line's byte 65,537; else a line with a byte 65,537 is too long.
+abbrev pub fit : ℕ → Line → Fit
+fit before line =
+    if nat_lt 1073741824 (before + size line) && nat_le (1073741824 - before) 65536 then ScriptTooLong
+    else if nat_lt 65536 (length line.bytes) then LineTooLong
+    else Fits
+
+-- how many bytes of the script have to be read until it is known how the line fares
+abbrev pub known_by : ℕ → Line → Fit → ℕ
+known_by before line Fits = before + length line.bytes
+known_by before line LineTooLong = before + 65537
+known_by before line ScriptTooLong = 1073741825

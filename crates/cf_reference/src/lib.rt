@@ -1,0 +1,2 @@
+// The reference run: what the program has to write for a script, and how it ends.
+#![tactic(auto)]
