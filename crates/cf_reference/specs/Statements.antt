@@ -42,10 +42,13 @@ is_name (b ∷ rest) = begins_name b && list_all (λ c. is_ascii_graphic c && no
 abbrev pub is_bits : List ℕ → Bool
 is_bits word = nat_le 1 (length word) && are_digits word
 
+abbrev pub decimal_value : List ℕ → ℕ
+decimal_value digits = fold (λ n digit. 10 * n + (digit - 48)) 0 digits
+
 -- the number of a word of one digit up to a limit of digits
 abbrev pub natural : ℕ → List ℕ → Option ℕ
 natural limit word =
-    if nat_le 1 (length word) && nat_le (length word) limit && list_all is_ascii_digit word then Some (fold (λ n digit. 10 * n + (digit - 48)) 0 word) else None
+    if nat_le 1 (length word) && nat_le (length word) limit && list_all is_ascii_digit word then Some (decimal_value word) else None
 
 -- a number of up to 18 digits with or without a minus, or a position of up to 3 digits behind `@`
 abbrev pub function : List ℕ → Option Function
@@ -70,14 +73,18 @@ abbrev pub value_form : List (List ℕ) → Option Statement
 value_form (name ∷ bits ∷ []) = if is_name name && is_bits bits then Some (Value name bits) else None
 value_form others = None
 
-abbrev pub statement_of : List (List ℕ) → Option Statement
-statement_of [] = None
-statement_of ([] ∷ []) = Some Empty
-statement_of (keyword ∷ more) =
+-- the form that a keyword says, over the words behind it
+abbrev pub form : List ℕ → List (List ℕ) → Option Statement
+form keyword more =
     if bytes_eq keyword (codes "level") then level_form more
     else if bytes_eq keyword (codes "let") then let_form more
     else if bytes_eq keyword (codes "value") then value_form more
     else None
+
+abbrev pub statement_of : List (List ℕ) → Option Statement
+statement_of [] = None
+statement_of ([] ∷ []) = Some Empty
+statement_of (keyword ∷ more) = form keyword more
 
 -- the statement that a line spells
 abbrev pub parse : List ℕ → Option Statement

@@ -1,0 +1,4 @@
+// A run of the program over any source, files and sink.
+#![tactic(auto)]
+
+mod statement;
