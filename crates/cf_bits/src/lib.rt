@@ -81,6 +81,7 @@ impl Bits {
     /// Writes the bits as digits to the front of `out`, and answers how many there are.
     pub fn text(self, out: &mut [u8; 128]) -> usize
         ensures len { result ≡ self.len }
+        ensures most { result ≤ 128 }
         ensures digits { take self.len out.new ≡ digits_of (bits self) }
         ensures rest { drop self.len out.new ≡ drop self.len out.old }
     {
