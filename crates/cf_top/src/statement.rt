@@ -4,7 +4,7 @@ ghost use Rattle.std.specs.List.{list_all};
 ghost use Rattle.std.specs.Char.{is_ascii_digit, is_ascii_graphic};
 ghost use Rattle.cf_model.specs.Assignments.{are_digits};
 ghost use Rattle.cf_reference.specs.Statements.{words, parse, level_form, let_form, value_form, function as function_of_word, natural, decimal_value, is_name, begins_name, is_bits, is_sign};
-ghost use Rattle.cf_top.specs.Views.{statement_view, function_view};
+ghost use Rattle.cf_top.specs.Views.{statement_view, function_view, IsInRange};
 
 /// What a name is bound to.
 #[derive(Clone, Copy, Debug, PartialEq, Eq)]
@@ -25,7 +25,8 @@ pub(crate) enum Statement<'a> {
 
 /// The statement that a line spells, or nothing if it is malformed.
 pub(crate) fn parse(line: &[u8]) -> Option<Statement<'_>>
-    ensures { option_map statement_view result ≡ parse line.now }
+    ensures parsed { option_map statement_view result ≡ parse line.now }
+    ensures levels { IfSome result IsInRange }
 {
     let (keyword, rest) = first_word(line);
     let Some(rest) = rest else {
@@ -64,7 +65,8 @@ fn first_space(bytes: &[u8]) -> Option<usize>
 }
 
 fn level_form(rest: &[u8]) -> Option<Statement<'_>>
-    ensures { option_map statement_view result ≡ level_form (words rest.now) }
+    ensures parsed { option_map statement_view result ≡ level_form (words rest.now) }
+    ensures levels { IfSome result IsInRange }
 {
     let (word, more) = first_word(rest);
     match more {
@@ -74,7 +76,8 @@ fn level_form(rest: &[u8]) -> Option<Statement<'_>>
 }
 
 fn level(word: &[u8]) -> Option<Statement<'_>>
-    ensures { option_map statement_view result ≡ level_form (word.now ∷ []) }
+    ensures parsed { option_map statement_view result ≡ level_form (word.now ∷ []) }
+    ensures levels { IfSome result IsInRange }
 {
     match word {
         [digit] if *digit >= b'0' && *digit <= b'7' => Some(Statement::Level(*digit - b'0')),
@@ -83,7 +86,8 @@ fn level(word: &[u8]) -> Option<Statement<'_>>
 }
 
 fn let_form(rest: &[u8]) -> Option<Statement<'_>>
-    ensures { option_map statement_view result ≡ let_form (words rest.now) }
+    ensures parsed { option_map statement_view result ≡ let_form (words rest.now) }
+    ensures levels { IfSome result IsInRange }
 {
     let (name, rest) = first_word(rest);
     let (equals, rest) = first_word(rest?);
@@ -95,7 +99,8 @@ fn let_form(rest: &[u8]) -> Option<Statement<'_>>
 }
 
 fn definition<'a>(name: &'a [u8], equals: &[u8], value: &[u8]) -> Option<Statement<'a>>
-    ensures { option_map statement_view result ≡ let_form (name.now ∷ equals.now ∷ value.now ∷ []) }
+    ensures parsed { option_map statement_view result ≡ let_form (name.now ∷ equals.now ∷ value.now ∷ []) }
+    ensures levels { IfSome result IsInRange }
 {
     if is_name(name) && equals == b"=".as_slice() {
         let function = function_of(value)?;
@@ -106,7 +111,8 @@ fn definition<'a>(name: &'a [u8], equals: &[u8], value: &[u8]) -> Option<Stateme
 }
 
 fn value_form(rest: &[u8]) -> Option<Statement<'_>>
-    ensures { option_map statement_view result ≡ value_form (words rest.now) }
+    ensures parsed { option_map statement_view result ≡ value_form (words rest.now) }
+    ensures levels { IfSome result IsInRange }
 {
     let (name, rest) = first_word(rest);
     let (bits, more) = first_word(rest?);
@@ -117,7 +123,8 @@ fn value_form(rest: &[u8]) -> Option<Statement<'_>>
 }
 
 fn question<'a>(name: &'a [u8], bits: &'a [u8]) -> Option<Statement<'a>>
-    ensures { option_map statement_view result ≡ value_form (name.now ∷ bits.now ∷ []) }
+    ensures parsed { option_map statement_view result ≡ value_form (name.now ∷ bits.now ∷ []) }
+    ensures levels { IfSome result IsInRange }
 {
     if is_name(name) && is_bits(bits) {
         Some(Statement::Value(name, bits))

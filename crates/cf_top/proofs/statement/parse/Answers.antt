@@ -4,8 +4,8 @@ use Rattle.cf_reference.specs.Statements.{words}
 use Rattle.cf_reference.proofs.WordLaws.{statement_of-keyword, form-unknown}
 use Rattle.cf_top.proofs.statement.parse.Goals as goal
 
-pub returns-else-eq-3 : goal.returns-else-eq-3
-returns-else-eq-3 c =
+pub returns-else-eq-3-clause-parsed : goal.returns-else-eq-3-clause-parsed
+returns-else-eq-3-clause-parsed c =
     rw (c.first_word.ensures, c.in-Some.is, statement_of-keyword c.first_word.result.0.now c.in-Some.rest.now)
     (sym (form-unknown c.first_word.result.0.now (words c.in-Some.rest.now)
     (ap (bytes_eq c.first_word.result.0.now) (sym c.as_slice.ensures) ∙ sym c.eq.ensures ∙ c.if-eq.false)
