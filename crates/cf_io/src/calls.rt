@@ -1,5 +1,5 @@
 ghost use Rattle.std.specs.Prelude.{◌≡◌, ℕ, ◌+◌, ◌<◌, ◌≤◌, List, [], ◌++◌, length, take, drop, if◌then◌else◌};
-ghost use Rattle.cf_io.specs.Causes.{one_more};
+ghost use Rattle.cf_io.specs.Causes.{HasCause, one_more};
 ghost use Rattle.cf_io.specs.Pieces.{fails_next, piece_length};
 
 /// The calls of a form in memory: those that fail, how many were made, and how many of them failed.
@@ -28,6 +28,7 @@ impl Calls {
         ensures listed { result ≡ fails_next self.old }
         ensures made { self.new.made ≡ one_more self.old.made }
         ensures faults { self.new.faults ≡ (if result then one_more self.old.faults else self.old.faults) }
+        ensures cause { HasCause self.old.faults self.new.faults result }
         ensures fails { self.new.fails.items ≡ self.old.fails.items }
     {
         let fails = self.fails.contains(&self.made);
@@ -41,6 +42,7 @@ impl Calls {
     /// Counts a fault.
     pub(crate) fn count_fault(&mut self)
         ensures faults { self.new.faults ≡ one_more self.old.faults }
+        ensures later { self.old.faults ≤ self.new.faults }
         ensures made { self.new.made ≡ self.old.made }
         ensures fails { self.new.fails.items ≡ self.old.fails.items }
     {

@@ -1,7 +1,7 @@
 ghost use Rattle.std.specs.Prelude.{◌≡◌, ℕ, ◌+◌, ◌-◌, ◌<◌, ◌≤◌, Bool, true, false, List, [], ◌++◌, length, take, drop, slice_index, IsTrue, IfOk, IfSome, IfNone};
 ghost use Rattle.std.specs.Borrow.{sem};
 ghost use Rattle.std.specs.Io.BufRead.{Rests};
-ghost use Rattle.cf_reference.specs.Lines.{fit, NoNewline, size};
+ghost use Rattle.cf_reference.specs.Lines.{fit, line_end, NoNewline};
 ghost use Rattle.cf_io.specs.Causes.{HasCause, Rose};
 ghost use Rattle.cf_io.specs.Held.{Held};
 ghost use Rattle.cf_io.specs.LineSteps.{Advances, answer_of, HandsOut, IsReadFault, Splits};
@@ -195,7 +195,7 @@ fn judge(handed: u64, len: usize, newline: bool) -> Fit
 /// Hands out the first `len` bytes that are held as a line, and its newline with them.
 fn hand_out(window: &mut Window, len: usize, newline: bool) -> Found
     requires sound { IsSound window.old }
-    requires within { size (record { bytes = take len (held window.old); newline = newline }) ≤ length (held window.old) }
+    requires within { len + length (line_end newline) ≤ length (held window.old) }
     ensures sound { IsSound window.new }
     ensures place { LiesIn window.new result }
     ensures ended { window.new.ended ≡ window.old.ended }
