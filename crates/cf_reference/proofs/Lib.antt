@@ -1,2 +1,4 @@
 pub mod Examples
 pub mod WordLaws
+pub mod LineLaws
+pub mod RunLaws

@@ -1,0 +1,4 @@
+pub mod FileLemmas
+pub mod WindowLemmas
+pub mod HandLemmas
+pub mod FindLemmas

@@ -1,0 +1,94 @@
+use Rattle.std.proofs.Common.{ℕ, zero, suc, ◌≡◌, ◌≢◌, ◌+◌, ◌-◌, ◌<◌, ◌≤◌, List, [], ◌∷◌, ◌++◌, length, get_or, take, drop, slice_index, refl, ap, sym, ◌∙◌, arith, subst, append_assoc, length-append, length-drop}
+use Rattle.std.proofs.Math.Seq.{take-add}
+use Rattle.std.proofs.lemmas.List.{drop-drop, drop-take, length-take, take-take, take_at}
+use Rattle.cf_reference.specs.Lines.{NoNewline}
+use Rattle.cf_reference.proofs.LineLaws.{plain_append}
+use Rattle.cf_io.specs.Windows.{between}
+
+-- bytes are free of newlines where each of their places is
+pub plain_take : (i : ℕ) (bytes : List ℕ) → i ≤ length bytes → ((k : ℕ) → k < i → slice_index bytes k ≢ 10) → NoNewline (take i bytes)
+plain_take zero bytes h p = tt
+plain_take (suc i) [] h p = absurd (omega arith)
+plain_take (suc i) (b ∷ bytes) h p = (p 0 (omega arith), plain_take i bytes (omega arith) (λ k lt. p (suc k) (omega arith)))
+
+-- the places that were seen, and those behind them
+pub plain_seen : (seen i : ℕ) (bytes behind : List ℕ) → seen + i ≤ length bytes → behind ≡ drop seen bytes → NoNewline (take seen bytes)
+    → ((k : ℕ) → k < i → slice_index behind k ≢ 10) → NoNewline (take (seen + i) bytes)
+plain_seen seen i bytes behind h e p q =
+    subst NoNewline (sym (take-add seen i bytes))
+        (plain_append (take seen bytes) (take i (drop seen bytes)) p
+            (subst (λ w. NoNewline (take i w)) e (plain_take i behind (omega (arith, length-drop seen bytes, ap length e)) q)))
+
+-- what two buffers with one front have between two places of it
+pub between_kept : (from upto : ℕ) (a b : List ℕ) → from ≤ upto → take upto a ≡ take upto b → between from upto a ≡ between from upto b
+between_kept from upto a b h e =
+    let n : from + (upto - from) ≡ upto = omega arith in
+    sym (drop-take from (upto - from) a)
+    ∙ ap (λ k. drop from (take k a)) n
+    ∙ ap (drop from) e
+    ∙ ap (λ k. drop from (take k b)) (sym n)
+    ∙ drop-take from (upto - from) b
+
+-- more bytes behind those between two places
+pub between_more : (from upto n : ℕ) (buf : List ℕ) → from ≤ upto → between from (upto + n) buf ≡ between from upto buf ++ take n (drop upto buf)
+between_more from upto n buf h =
+    let k : upto + n - from ≡ (upto - from) + n = omega arith in
+    let m : from + (upto - from) ≡ upto = omega arith in
+    ap (λ j. take j (drop from buf)) k
+    ∙ take-add (upto - from) n (drop from buf)
+    ∙ ap (λ w. between from upto buf ++ take n w) (drop-drop (upto - from) from buf ∙ ap (λ j. drop j buf) m)
+
+-- the bytes that are left between two places where some are taken off
+pub between_drop : (from upto n : ℕ) (buf : List ℕ) → from + n ≤ upto → between (from + n) upto buf ≡ drop n (between from upto buf)
+between_drop from upto n buf h =
+    let k : n + (upto - (from + n)) ≡ upto - from = omega arith in
+    ap (take (upto - (from + n))) (sym (drop-drop n from buf))
+    ∙ sym (drop-take n (upto - (from + n)) (drop from buf))
+    ∙ ap (λ j. drop n (take j (drop from buf))) k
+
+pub length_between : (from upto : ℕ) (buf : List ℕ) → from ≤ upto → upto ≤ length buf → length (between from upto buf) ≡ upto - from
+length_between from upto buf h w = omega (arith, length-take (upto - from) (drop from buf), length-drop from buf)
+
+-- a front of what is held is in the buffer
+pub take_between : (from upto n : ℕ) (buf : List ℕ) → from + n ≤ upto → take n (between from upto buf) ≡ between from (from + n) buf
+take_between from upto n buf h =
+    let k : from + n - from ≡ n = omega arith in
+    take-take n (upto - from) (drop from buf) (omega arith) ∙ ap (λ j. take j (drop from buf)) (sym k)
+
+-- the place of the first newline cuts what is held
+pub cut_at : (i : ℕ) (bytes : List ℕ) → i < length bytes → slice_index bytes i ≡ 10 → bytes ≡ take i bytes ++ 10 ∷ drop (i + 1) bytes
+cut_at i [] h e = absurd (omega arith)
+cut_at zero (b ∷ bytes) h e = ap (λ x. x ∷ bytes) e
+cut_at (suc i) (b ∷ bytes) h e =
+    let k : suc i + 1 ≡ suc (i + 1) = omega arith in
+    rw k (ap (λ w. b ∷ w) (cut_at i bytes (omega arith) e))
+
+-- what was read stands behind what was held
+behind_held : (from upto n upto2 : ℕ) (items new mid held : List ℕ) → items ≡ new → from ≤ upto → upto2 ≡ upto + n → take upto new ≡ take upto mid
+    → between from upto mid ≡ held → between from upto2 items ≡ held ++ take n (drop upto new)
+behind_held from upto n upto2 items new mid held e h u k b =
+    ap (between from upto2) e
+    ∙ ap (λ j. between from j new) u
+    ∙ between_more from upto n new h
+    ∙ ap (λ w. w ++ take n (drop upto new)) (between_kept from upto new mid h k ∙ b)
+
+pub stream_kept : (from upto n upto2 : ℕ) (items new mid held left left2 : List ℕ) → items ≡ new → from ≤ upto → upto2 ≡ upto + n → take upto new ≡ take upto mid
+    → between from upto mid ≡ held → left ≡ take n (drop upto new) ++ left2 → between from upto2 items ++ left2 ≡ held ++ left
+stream_kept from upto n upto2 items new mid held left left2 e h u k b l =
+    ap (λ w. w ++ left2) (behind_held from upto n upto2 items new mid held e h u k b)
+    ∙ append_assoc held (take n (drop upto new)) left2
+    ∙ ap (λ w. held ++ w) (sym l)
+
+pub front_kept : (from upto n upto2 : ℕ) (items new mid held : List ℕ) → items ≡ new → from ≤ upto → upto2 ≡ upto + n → take upto new ≡ take upto mid
+    → between from upto mid ≡ held → take (length held) (between from upto2 items) ≡ held
+front_kept from upto n upto2 items new mid held e h u k b =
+    ap (take (length held)) (behind_held from upto n upto2 items new mid held e h u k b) ∙ take_at held (take n (drop upto new)) (length held) refl
+
+-- a piece that was copied to the front of a buffer
+pub copied : (at n : ℕ) (bytes piece rest : List ℕ) → at + n ≤ length bytes → piece ≡ take (at + n - at) (drop at bytes)
+    → take (at + n) bytes ≡ take at bytes ++ take n (piece ++ rest)
+copied at n bytes piece rest h e =
+    let k : at + n - at ≡ n = omega arith in
+    let is : piece ≡ take n (drop at bytes) = e ∙ ap (λ j. take j (drop at bytes)) k in
+    let len : length piece ≡ n = omega (arith, ap length is, length-take n (drop at bytes), length-drop at bytes) in
+    take-add at n bytes ∙ ap (λ w. take at bytes ++ w) (sym is ∙ sym (take_at piece rest n len))

@@ -1,0 +1,14 @@
+use Rattle.std.specs.Prelude.{ℕ, ◌≤◌, ◌+◌, ◌-◌, ◌^◌, min, Bool, IsTrue}
+
+-- the count rose in a call, or stands at its last value
+abbrev pub Rose : ℕ → ℕ → Type 0
+Rose before now = min (before + 1) (2 ^ 64 - 1) ≤ now
+
+-- the count doesn't fall, and rose where the call failed
+pub record HasCause (before now : ℕ) (failed : Bool) : Type 0 where
+  pub later : before ≤ now
+  pub rose : IsTrue failed → Rose before now
+
+-- one more, up to the last value of a count
+abbrev pub one_more : ℕ → ℕ
+one_more n = min (n + 1) (2 ^ 64 - 1)

@@ -1,0 +1,10 @@
+pub mod Causes
+pub mod Reading
+pub mod Putting
+pub mod Opening
+pub mod Contents
+pub mod Pieces
+pub mod Held
+pub mod Answers
+pub mod LineSteps
+pub mod Windows

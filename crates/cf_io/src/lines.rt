@@ -1,0 +1,275 @@
+ghost use Rattle.std.specs.Prelude.{◌≡◌, ℕ, ◌+◌, ◌-◌, ◌<◌, ◌≤◌, Bool, true, false, List, [], ◌++◌, length, take, drop, slice_index, IsTrue, IfOk, IfSome, IfNone};
+ghost use Rattle.std.specs.Borrow.{sem};
+ghost use Rattle.std.specs.Io.BufRead.{Rests};
+ghost use Rattle.cf_reference.specs.Lines.{fit, line_end, NoNewline};
+ghost use Rattle.cf_io.specs.Causes.{HasCause, Rose};
+ghost use Rattle.cf_io.specs.Held.{Held};
+ghost use Rattle.cf_io.specs.LineSteps.{Advances, answer_of, HandsOut, IsReadFault, Splits};
+ghost use Rattle.cf_io.specs.Reading.{count_of, GotWithin, is_end, is_failed};
+ghost use Rattle.cf_io.specs.Windows.{answer_in, fit_of, Hands, held, IsSound, LiesIn, state};
+ghost use Rattle.cf_io.specs.contracts.lines.Lines.{the_row};
+
+use crate::source::{Got, Source};
+use memchr::memchr;
+use std::alloc::{AllocError, Global};
+use std::marker::Model;
+
+/// The bytes of the longest line, its line end not counted.
+const LONGEST_LINE: usize = 65_536;
+
+/// The bytes of the longest script.
+const LONGEST_SCRIPT: u64 = 1_073_741_824;
+
+/// The bytes of the buffer: four longest lines with their line ends.
+const BUFFER: usize = 262_148;
+
+/// What a read of a line gave: the line without its line end, the end of input, a line or a script that is too long, or a
+/// failure of the source.
+pub enum Next<'a> {
+    Line(&'a [u8]),
+    End,
+    TooLong,
+    ScriptTooLong,
+    ReadFault,
+}
+
+/// As `Next`, with a line's first place in the buffer and the place behind it.
+enum Found {
+    Line(usize, usize),
+    End,
+    TooLong,
+    ScriptTooLong,
+    ReadFault,
+}
+
+/// How a line fares by its length.
+enum Fit {
+    Fits,
+    LineTooLong,
+    ScriptTooLong,
+}
+
+/// A buffer of which the bytes from `from` up to `upto` are held, behind `handed` bytes of the script.
+#[derive(Drop)]
+struct Window {
+    buf: Vec<u8>,
+    from: usize,
+    upto: usize,
+    handed: u64,
+    ended: bool,
+}
+
+/// Hands out the lines of a source. Its buffer is taken once.
+#[derive(Drop)]
+pub struct Lines {
+    window: Window,
+}
+
+impl Model for Lines {
+    ghost use Rattle.cf_io.specs.Held.{Held};
+    ghost use Rattle.cf_io.specs.Windows.{IsSound, state};
+
+    ghost Value = { Held };
+
+    ghost view = { λ s. state s.window };
+
+    ghost invariant = { λ s. IsSound s.window };
+}
+
+impl Lines {
+    /// A buffer that holds nothing.
+    pub fn new(alloc: Global) -> Result<Lines, AllocError>
+        ensures { IfOk result (λ l. l ≡ record { bytes = []; handed = 0; ended = false }) }
+    {
+        let buf = vec![in alloc; 0u8; BUFFER]?;
+        Ok(Lines {
+            window: Window {
+                buf,
+                from: 0,
+                upto: 0,
+                handed: 0,
+                ended: false,
+            },
+        })
+    }
+
+    /// The next line of the source. A line ends at a newline or, if it has bytes, at the end of input.
+    pub fn next_line<S: Source>(&mut self, source: &mut S) -> Next<'_>
+        ensures* after { sem 𝓛 (Rests the_row self.entry (λ new.
+            Advances self.old new (S.taken source.old) (S.taken source.new) (answer_of result)
+            × ((IsTrue self.old.ended → IsTrue (S.ended source.old)) → IsTrue new.ended → IsTrue (S.ended source.new))
+            × (IsTrue (S.tells source.old) → Splits (self.old.bytes ++ S.left source.old) (new.bytes ++ S.left source.new) (answer_of result))
+            × (IsTrue (S.tells source.old) → (IsTrue self.old.ended → S.left source.old ≡ []) →
+            HandsOut self.old (self.old.bytes ++ S.left source.old) new (new.bytes ++ S.left source.new) (answer_of result)
+            × (IsTrue new.ended → S.left source.new ≡ [])))) }
+        ensures told { S.tells source.new ≡ S.tells source.old }
+        ensures later { S.faults source.old ≤ S.faults source.new }
+        ensures cause { IsReadFault (answer_of result) → Rose (S.faults source.old) (S.faults source.new) }
+    {
+        match find(&mut self.window, source) {
+            Found::Line(from, upto) => Next::Line(&self.window.buf[from..upto]),
+            Found::End => Next::End,
+            Found::TooLong => Next::TooLong,
+            Found::ScriptTooLong => Next::ScriptTooLong,
+            Found::ReadFault => Next::ReadFault,
+        }
+    }
+}
+
+/// Finds the next line, and takes it off the bytes that are held.
+fn find<S: Source>(window: &mut Window, source: &mut S) -> Found
+    requires sound { IsSound window.old }
+    ensures sound { IsSound window.new }
+    ensures place { LiesIn window.new result }
+    ensures advances { Advances (state window.old) (state window.new) (S.taken source.old) (S.taken source.new) (answer_in window.new.buf.items result) }
+    ensures ended { (IsTrue window.old.ended → IsTrue (S.ended source.old)) → IsTrue window.new.ended → IsTrue (S.ended source.new) }
+    ensures splits { IsTrue (S.tells source.old) →
+        Splits (held window.old ++ S.left source.old) (held window.new ++ S.left source.new) (answer_in window.new.buf.items result) }
+    ensures hands { IsTrue (S.tells source.old) → (IsTrue window.old.ended → S.left source.old ≡ []) →
+        HandsOut (state window.old) (held window.old ++ S.left source.old) (state window.new) (held window.new ++ S.left source.new)
+        (answer_in window.new.buf.items result)
+        × (IsTrue window.new.ended → S.left source.new ≡ []) }
+    ensures told { S.tells source.new ≡ S.tells source.old }
+    ensures later { S.faults source.old ≤ S.faults source.new }
+    ensures cause { IsReadFault (answer_in window.new.buf.items result) → Rose (S.faults source.old) (S.faults source.new) }
+{
+    let mut seen = 0usize;
+    loop {
+        let len = window.upto - window.from;
+        if let Some(i) = newline_from(&window.buf[window.from..window.upto], seen) {
+            return hand_out(window, i, true);
+        }
+        if window.ended {
+            if len == 0 {
+                return Found::End;
+            }
+            return hand_out(window, len, false);
+        }
+        match judge(window.handed, len, false) {
+            Fit::Fits => {}
+            Fit::LineTooLong => return Found::TooLong,
+            Fit::ScriptTooLong => return Found::ScriptTooLong,
+        }
+        seen = len;
+        if let Got::Failed = refill(window, source) {
+            return Found::ReadFault;
+        }
+    }
+}
+
+/// The place of the first newline, where none stands before `seen`.
+fn newline_from(bytes: &[u8], seen: usize) -> Option<usize>
+    requires seen { seen ≤ length bytes.now }
+    requires none_before { NoNewline (take seen bytes.now) }
+    ensures within { IfSome result (λ i. i < length bytes.now) }
+    ensures found { IfSome result (λ i. slice_index bytes.now i ≡ 10) }
+    ensures before { IfSome result (λ i. NoNewline (take i bytes.now)) }
+    ensures none { IfNone result (NoNewline bytes.now) }
+{
+    match memchr(b'\n', &bytes[seen..]) {
+        Some(i) => Some(seen + i),
+        None => None,
+    }
+}
+
+/// How a line of `len` bytes fares that begins behind `handed` bytes of the script, with a newline at its end or not.
+fn judge(handed: u64, len: usize, newline: bool) -> Fit
+    requires { handed ≤ 1073741824 }
+    ensures { (bytes : List ℕ) → length bytes ≡ len → fit handed (record { bytes = bytes; newline = newline }) ≡ fit_of result }
+{
+    let allowed = LONGEST_SCRIPT - handed;
+    let passes = if newline {
+        allowed <= len as u64
+    } else {
+        allowed < len as u64
+    };
+    if passes && allowed <= LONGEST_LINE as u64 {
+        Fit::ScriptTooLong
+    } else if LONGEST_LINE < len {
+        Fit::LineTooLong
+    } else {
+        Fit::Fits
+    }
+}
+
+/// Hands out the first `len` bytes that are held as a line, and its newline with them.
+fn hand_out(window: &mut Window, len: usize, newline: bool) -> Found
+    requires sound { IsSound window.old }
+    requires within { len + length (line_end newline) ≤ length (held window.old) }
+    ensures sound { IsSound window.new }
+    ensures place { LiesIn window.new result }
+    ensures ended { window.new.ended ≡ window.old.ended }
+    ensures hands { Hands window.old window.new (record { bytes = take len (held window.old); newline = newline }) result }
+{
+    match judge(window.handed, len, newline) {
+        Fit::Fits => {
+            let start = window.from;
+            let size = len + usize::from(newline);
+            window.from = start + size;
+            window.handed += size as u64;
+            Found::Line(start, start + len)
+        }
+        Fit::LineTooLong => Found::TooLong,
+        Fit::ScriptTooLong => Found::ScriptTooLong,
+    }
+}
+
+/// Moves the held bytes to the buffer's front where fewer than a longest line with its line end fit from their place on.
+fn make_room(window: &mut Window)
+    requires sound { IsSound window.old }
+    requires short { length (held window.old) ≤ 65536 }
+    ensures sound { IsSound window.new }
+    ensures same { state window.new ≡ state window.old }
+    ensures room { window.new.upto < length window.new.buf.items }
+{
+    if window.buf.len() - window.from <= LONGEST_LINE {
+        let len = window.upto - window.from;
+        window.buf.copy_within(window.from..window.upto, 0);
+        window.from = 0;
+        window.upto = len;
+    }
+}
+
+/// Reads into all the room behind the bytes that are held.
+fn refill<S: Source>(window: &mut Window, source: &mut S) -> Got
+    requires sound { IsSound window.old }
+    requires short { length (held window.old) ≤ 65536 }
+    requires open { window.old.ended ≡ false }
+    ensures sound { IsSound window.new }
+    ensures kept { take (length (held window.old)) (held window.new) ≡ held window.old }
+    ensures count { length (held window.new) ≡ length (held window.old) + count_of result }
+    ensures bound { GotWithin result 262148 }
+    ensures handed { window.new.handed ≡ window.old.handed }
+    ensures ended { window.new.ended ≡ is_end result }
+    ensures source_ended { S.ended source.new ≡ is_end result }
+    ensures taken { S.taken source.new ≡ S.taken source.old + count_of result }
+    ensures stream { IsTrue (S.tells source.old) → held window.new ++ S.left source.new ≡ held window.old ++ S.left source.old }
+    ensures end { IsTrue (S.tells source.old) → IsTrue (is_end result) → S.left source.new ≡ [] }
+    ensures told { S.tells source.new ≡ S.tells source.old }
+    ensures cause { HasCause (S.faults source.old) (S.faults source.new) (is_failed result) }
+{
+    make_room(window);
+    let got = read_behind(&mut window.buf, window.upto, source);
+    match got {
+        Got::Got(count) => window.upto += count,
+        Got::End => window.ended = true,
+        Got::Failed => {}
+    }
+    got
+}
+
+/// Reads into the buffer behind the first `used` bytes.
+fn read_behind<S: Source>(buf: &mut [u8], used: usize, source: &mut S) -> Got
+    requires { used < length buf.old }
+    ensures bound { GotWithin result (length buf.old - used) }
+    ensures room { length buf.new ≡ length buf.old }
+    ensures kept { take used buf.new ≡ take used buf.old }
+    ensures bytes { IsTrue (S.tells source.old) → S.left source.old ≡ take (count_of result) (drop used buf.new) ++ S.left source.new }
+    ensures end { IsTrue (S.tells source.old) → IsTrue (is_end result) → S.left source.old ≡ [] }
+    ensures taken { S.taken source.new ≡ S.taken source.old + count_of result }
+    ensures source_ended { S.ended source.new ≡ is_end result }
+    ensures told { S.tells source.new ≡ S.tells source.old }
+    ensures cause { HasCause (S.faults source.old) (S.faults source.new) (is_failed result) }
+{
+    source.read(&mut buf[used..])
+}

@@ -1,0 +1,79 @@
+ghost use Rattle.std.specs.Prelude.{◌≡◌, ℕ, ◌+◌, ◌≤◌, Bool, true, List, [], ◌++◌, length, take, vec_len, IsTrue, IfOk};
+
+use crate::calls::Calls;
+use crate::sink::{Put, Sink};
+use std::alloc::{AllocError, Global};
+
+/// A sink in memory with a fixed room. A write takes at most `piece` bytes, and fails where the sink is full. The calls
+/// fail whose numbers, counted from 0, are listed.
+#[derive(Drop)]
+pub struct MemSink {
+    room: Vec<u8>,
+    used: usize,
+    piece: usize,
+    calls: Calls,
+    ghost within: { used ≤ vec_len room },
+    ghost positive: { 1 ≤ piece },
+}
+
+impl MemSink {
+    /// An empty sink, whose room of `room` bytes is taken at once.
+    pub fn new(
+        alloc: Global,
+        room: usize,
+        piece: usize,
+        fails: Vec<u64>,
+    ) -> Result<MemSink, AllocError>
+        requires { 1 ≤ piece }
+        ensures tells { IfOk result (λ s. IsTrue (⟦<MemSink as Sink>⟧.tells s)) }
+        ensures written { IfOk result (λ s. ⟦<MemSink as Sink>⟧.written s ≡ []) }
+        ensures faults { IfOk result (λ s. ⟦<MemSink as Sink>⟧.faults s ≡ 0) }
+    {
+        let room = vec![in alloc; 0u8; room]?;
+        Ok(MemSink {
+            room,
+            used: 0,
+            piece,
+            calls: Calls::new(fails),
+        })
+    }
+
+    /// The bytes that were written.
+    pub fn bytes(&self) -> &[u8]
+        ensures { result.now ≡ ⟦<MemSink as Sink>⟧.written self.now }
+    {
+        &self.room[..self.used]
+    }
+}
+
+/// Copies a piece behind the first `used` bytes of a buffer.
+fn copy_behind(buf: &mut [u8], used: usize, piece: &[u8])
+    requires { used + length piece.now ≤ length buf.old }
+    ensures bytes { take (used + length piece.now) buf.new ≡ take used buf.old ++ piece.now }
+    ensures room { length buf.new ≡ length buf.old }
+{
+    buf[used..used + piece.len()].copy_from_slice(piece);
+}
+
+impl Sink for MemSink {
+    ghost tells = { λ _. true };
+
+    ghost written = { λ s. take s.used s.room.items };
+
+    ghost faults = { λ s. s.calls.faults };
+
+    fn write(&mut self, piece: &[u8]) -> Put {
+        if self.calls.fails_now() {
+            return Put::Failed;
+        }
+        let free = self.room.len() - self.used;
+        if free == 0 {
+            self.calls.count_fault();
+            return Put::Failed;
+        }
+        let count = piece.len().min(self.piece).min(free);
+        copy_behind(&mut self.room, self.used, &piece[..count]);
+        self.used += count;
+        Put::Took(count)
+    }
+}
