@@ -1,2 +1,4 @@
 pub mod Views
 pub mod Stepping
+pub mod Ends
+pub mod Carrying

@@ -2,5 +2,75 @@
 #![tactic(auto)]
 
 mod refusal;
+mod script;
 mod session;
 mod statement;
+mod status;
+
+ghost use Rattle.std.specs.Prelude.{◌≡◌, ◌≢◌, ℕ, ◌+◌, ◌≤◌, ◌⊎◌, List, [], ◌∷◌, ◌++◌, IsTrue, true, false, map, string_bytes};
+ghost use Rattle.cf_io.specs.Causes.{Rose};
+ghost use Rattle.cf_reference.specs.Run.{ref, is_run, Ending};
+ghost use Rattle.cf_top.specs.Ends.{Meets, Completes};
+
+use cf_io::{Files, Sink, Source, put_all};
+use cf_text::usage_text;
+use script::run_script;
+pub use status::Status;
+use std::alloc::Global;
+
+/// Does what the words say: `run` carries out the script, and any other words get the usage line.
+///
+/// The script's replies are written to `out`, line by line, and the last one is a refusal where a line is refused. No
+/// statement opens a file yet.
+pub fn run<S: Source, F: Files, K: Sink>(
+    alloc: Global,
+    words: &[String],
+    script: &mut S,
+    files: &mut F,
+    out: &mut K,
+) -> Status
+    // Where the bytes that are read and written are told, the reference run says what is written and how it ends. Only a
+    // fault or want of memory cuts it off.
+    ensures run { (IsTrue (is_run (map string_bytes words.now)) → IsTrue (S.tells script.old)) → IsTrue (K.tells out.old) →
+        Meets (ref (map string_bytes words.now) (S.left script.old)) (K.written out.old) (K.written out.new) (S.taken script.old) (S.taken script.new) result }
+    ensures complete { (IsTrue (is_run (map string_bytes words.now)) → IsTrue (S.tells script.old)) → IsTrue (K.tells out.old)
+        → ¬ Rose (S.faults script.old) (S.faults script.new) → ¬ Rose (F.faults files.old) (F.faults files.new) → ¬ Rose (K.faults out.old) (K.faults out.new)
+        → result ≢ Status.NoMemory → Completes (ref (map string_bytes words.now) (S.left script.old)) (K.written out.old) (K.written out.new) result }
+
+    // At Done the source has ended, and nothing is left.
+    ensures ended { result ≡ Status.Done → IsTrue (S.ended script.new) }
+    ensures done { IsTrue (S.tells script.old) → result ≡ Status.Done → S.left script.new ≡ [] }
+
+    // Other words than `run` read nothing and want no memory.
+    ensures usage { result ≡ Status.Usage → is_run (map string_bytes words.now) ≡ false }
+    ensures others { is_run (map string_bytes words.now) ≡ false → (result ≡ Status.Usage) ⊎ (result ≡ Status.WriteFault) }
+    ensures unread { is_run (map string_bytes words.now) ≡ false → script.new ≡ script.old }
+
+    // Faults have causes.
+    ensures read { result ≡ Status.ReadFault → Rose (S.faults script.old) (S.faults script.new) }
+    ensures write { result ≡ Status.WriteFault → Rose (K.faults out.old) (K.faults out.new) }
+    ensures file { result ≡ Status.FileFault → Rose (F.faults files.old) (F.faults files.new) }
+
+    // What stays as it was.
+    ensures told { (S.tells script.new ≡ S.tells script.old) × (K.tells out.new ≡ K.tells out.old) }
+    ensures later { (S.faults script.old ≤ S.faults script.new) × (K.faults out.old ≤ K.faults out.new) }
+    ensures files { files.new ≡ files.old }
+{
+    let _ = files;
+    if is_run(words) {
+        run_script(alloc, script, out)
+    } else if put_all(out, usage_text().bytes()) {
+        Status::Usage
+    } else {
+        Status::WriteFault
+    }
+}
+
+fn is_run(words: &[String]) -> bool
+    ensures { result ≡ is_run (map string_bytes words.now) }
+{
+    match words {
+        [word] => word.as_str() == "run",
+        _ => false,
+    }
+}

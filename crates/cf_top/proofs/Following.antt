@@ -1,0 +1,109 @@
+-- How a run that has come some way stands to the reference run.
+use Rattle.std.proofs.Common.{ℕ, ◌≡◌, ◌+◌, ◌≤◌, Bool, true, false, List, [], ◌∷◌, ◌++◌, length, take, drop, refl, ap, sym, ◌∙◌, subst, arith, append_assoc, append-nil}
+use Rattle.std.proofs.lemmas.List.{take-append-drop}
+use Rattle.cf_reference.specs.Lines.{Line, Fit, Fits, fit, known_by, size, lines}
+use Rattle.cf_reference.specs.Steps.{State, Outcome}
+use Rattle.cf_reference.specs.Run.{Close, Done, Refused, Ending, adds, run_lines, carry, text_of, state_of, refuses}
+use Rattle.cf_reference.proofs.RunLaws.{adds-adds, run_lines-nil, run_lines-goes, run_lines-refused, run_lines-text}
+use Rattle.cf_top.specs.Ends.{AppendsFront, Ends}
+
+-- The whole run's end is the text that was written so far, and then the rest of the run.
+pub record Follows (whole rest : Ending) (before now : List ℕ) : Type 0 where
+  pub so_far : List ℕ
+  pub written : now ≡ before ++ so_far
+  pub ending : whole ≡ adds so_far rest
+
+pub at_start : (whole : Ending) (before : List ℕ) → Follows whole whole before before
+at_start whole before = record { so_far = []; written = sym (append-nil before); ending = refl }
+
+-- one more text
+pub goes_on : (whole rest later : Ending) (before now after text : List ℕ) → Follows whole rest before now → rest ≡ adds text later → after ≡ now ++ text
+    → Follows whole later before after
+goes_on whole rest later before now after text follows e written = record {
+  so_far = follows.so_far ++ text;
+  written = written ∙ ap (λ w. w ++ text) follows.written ∙ append_assoc before follows.so_far text;
+  ending = follows.ending ∙ ap (adds follows.so_far) e ∙ adds-adds follows.so_far text later;
+}
+
+-- where the run is cut off, a front of the whole text was written
+pub cut_off : (whole rest : Ending) (before now : List ℕ) → Follows whole rest before now → AppendsFront before now whole.text
+cut_off whole rest before now follows = record {
+  front = follows.so_far;
+  rest = rest.text;
+  appended = follows.written;
+  whole = ap (λ (end : Ending). end.text) follows.ending;
+}
+
+pub cut_in_text : (whole rest : Ending) (before now after text more : List ℕ) → Follows whole rest before now → rest.text ≡ text ++ more → AppendsFront now after text
+    → AppendsFront before after whole.text
+cut_in_text whole rest before now after text more follows e fails = record {
+  front = follows.so_far ++ fails.front;
+  rest = fails.rest ++ more;
+  appended = fails.appended ∙ ap (λ w. w ++ fails.front) follows.written ∙ append_assoc before follows.so_far fails.front;
+  whole =
+      ap (λ (end : Ending). end.text) follows.ending
+      ∙ ap (λ w. follows.so_far ++ w) (e ∙ ap (λ w. w ++ more) fails.whole ∙ append_assoc fails.front fails.rest more)
+      ∙ sym (append_assoc follows.so_far fails.front (fails.rest ++ more));
+}
+
+-- where the rest of the run adds one text and closes, the whole run does
+pub closes : (whole rest : Ending) (before now after : List ℕ) (close : Close) (from upto : ℕ) → Follows whole rest before now → after ≡ now ++ rest.text → rest.close ≡ close → from + rest.read ≤ upto
+    → Ends whole close before after from upto
+closes whole rest before now after close from upto follows written closed read = record {
+  text =
+      written
+      ∙ ap (λ w. w ++ rest.text) follows.written
+      ∙ append_assoc before follows.so_far rest.text
+      ∙ ap (λ w. before ++ w) (sym (ap (λ (end : Ending). end.text) follows.ending));
+  closed = ap (λ (end : Ending). end.close) follows.ending ∙ closed;
+  read = subst (λ n. from + n ≤ upto) (sym (ap (λ (end : Ending). end.read) follows.ending)) read;
+}
+
+-- what was written of a text is a front of it
+pub front_of_take : (before after text : List ℕ) → ((n : ℕ) × (after ≡ before ++ take n text)) → AppendsFront before after text
+front_of_take before after text h = record {
+  front = take h.0 text;
+  rest = drop h.0 text;
+  appended = h.1;
+  whole = sym (take-append-drop h.0 text);
+}
+
+-- nothing is left: the run is done
+pub done_here : (whole : Ending) (s : State) (n handed from upto : ℕ) (before now old : List ℕ) → Follows whole (run_lines s n handed (lines old)) before now → lines old ≡ [] → from + handed ≤ upto
+    → Ends whole Done before now from upto
+done_here whole s n handed from upto before now old follows none read =
+    let e = ap (run_lines s n handed) none ∙ run_lines-nil s n handed in
+    closes whole (run_lines s n handed (lines old)) before now now Done from upto follows
+    (sym (ap (λ (end : Ending). now ++ end.text) e ∙ append-nil now))
+    (ap (λ (end : Ending). end.close) e)
+    (subst (λ k. from + k ≤ upto) (sym (ap (λ (end : Ending). end.read) e)) read)
+
+-- a line that goes on
+pub line_goes : (whole : Ending) (s : State) (n handed : ℕ) (before now after old : List ℕ) (line : Line) (more : List Line) (outcome : Outcome)
+    → Follows whole (run_lines s n handed (lines old)) before now → lines old ≡ line ∷ more → carry s handed line ≡ outcome → refuses outcome ≡ false → after ≡ now ++ text_of n outcome
+    → Follows whole (run_lines (state_of s outcome) (n + 1) (handed + size line) more) before after
+line_goes whole s n handed before now after old line more outcome follows e carried goes written =
+    goes_on whole (run_lines s n handed (lines old)) _ before now after (text_of n outcome) follows
+    (ap (run_lines s n handed) e ∙ run_lines-goes s n handed line more outcome carried goes)
+    written
+
+-- a line that is refused
+pub line_refused : (whole : Ending) (s : State) (n handed from upto : ℕ) (before now after old : List ℕ) (line : Line) (more : List Line) (outcome : Outcome)
+    → Follows whole (run_lines s n handed (lines old)) before now → lines old ≡ line ∷ more → carry s handed line ≡ outcome → refuses outcome ≡ true → after ≡ now ++ text_of n outcome
+    → from + known_by handed line (fit handed line) ≤ upto → Ends whole Refused before after from upto
+line_refused whole s n handed from upto before now after old line more outcome follows e carried refused written read =
+    let end = ap (run_lines s n handed) e ∙ run_lines-refused s n handed line more outcome carried refused in
+    closes whole (run_lines s n handed (lines old)) before now after Refused from upto follows
+    (written ∙ sym (ap (λ (end : Ending). now ++ end.text) end))
+    (ap (λ (end : Ending). end.close) end)
+    (subst (λ k. from + k ≤ upto) (sym (ap (λ (end : Ending). end.read) end)) read)
+
+-- a line whose text couldn't be written
+pub line_fails : (whole : Ending) (s : State) (n handed : ℕ) (before now after old : List ℕ) (line : Line) (more : List Line) (outcome : Outcome)
+    → Follows whole (run_lines s n handed (lines old)) before now → lines old ≡ line ∷ more → carry s handed line ≡ outcome → AppendsFront now after (text_of n outcome)
+    → AppendsFront before after whole.text
+line_fails whole s n handed before now after old line more outcome follows e carried fails =
+    let t = run_lines-text s n handed line more outcome carried in
+    cut_in_text whole (run_lines s n handed (lines old)) before now after (text_of n outcome) t.0 follows
+    (ap (λ (end : Ending). end.text) (ap (run_lines s n handed) e) ∙ t.1)
+    fails
