@@ -1,4 +1,4 @@
-use Rattle.std.proofs.Common.{ℕ, suc, ◌≡◌, ◌+◌, ◌<◌, List, [], ◌∷◌, map, drop, length, get_or, slice_get, Vec, Global, Some, None, cond, ap, sym, ◌∙◌, refl, add-one, drop-cons, arith}
+use Rattle.std.proofs.Common.{ℕ, suc, ◌≡◌, ◌+◌, ◌<◌, List, [], map, drop, length, get_or, Vec, Global, Some, cond, ap, sym, ◌∙◌, refl, add-one, drop-cons}
 use Rattle.std.specs.Option.{option_map, option_map_or}
 use Rattle.std.proofs.lemmas.Option.{slice_get_read}
 use Rattle.std.specs.Str.{bytes_eq}

@@ -1,6 +1,6 @@
-use Rattle.std.proofs.Common.{ℕ, ◌≡◌, ◌+◌, ◌-◌, ◌<◌, ◌≤◌, ◌∙◌, Bool, true, false, IsTrue, List, [], ◌∷◌, ◌++◌, length, take, drop, slice_index, refl, ap, sym, subst, arith, append_assoc}
+use Rattle.std.proofs.Common.{ℕ, ◌≡◌, ◌+◌, ◌<◌, ◌≤◌, ◌∙◌, true, false, IsTrue, List, [], ◌∷◌, ◌++◌, length, take, drop, slice_index, ap, sym, subst, arith, append_assoc, append-nil}
 use Rattle.std.proofs.lemmas.List.{take_all, drop_all, length-take-le}
-use Rattle.cf_reference.specs.Lines.{Line, line_end, lines, size, fit, Fit, Fits, LineTooLong, ScriptTooLong, NoNewline}
+use Rattle.cf_reference.specs.Lines.{Line, line_end, lines, size, fit, LineTooLong, ScriptTooLong, NoNewline}
 use Rattle.cf_reference.proofs.LineLaws.{lines_newline, lines_last, lines_nil, lines_front, front_long, front_over, is_long, is_over}
 use Rattle.cf_io.specs.Held.{Held}
 use Rattle.cf_io.specs.LineSteps.{Splits, HandsOut, IsFirst, BeginsTooLong}
@@ -19,11 +19,12 @@ pub splits_of : (w w2 : Window) (line : Line) (left old : List ℕ) (r : Found) 
 splits_of w w2 line left old (found.Line a b) t cut e = (
   line.newline,
   sym e
-  ∙ ap (λ h. h ++ left) cut
-  ∙ append_assoc line.bytes (line_end line.newline ++ drop (size line) (held w)) left
-  ∙ ap (λ x. line.bytes ++ x) (append_assoc (line_end line.newline) (drop (size line) (held w)) left)
-  ∙ ap (λ h. line.bytes ++ (line_end line.newline ++ (h ++ left))) (sym t.held)
-  ∙ ap (λ l. l ++ (line_end line.newline ++ (held w2 ++ left))) (sym t.bytes),
+      ∙ ap (λ h. h ++ left) cut
+      ∙ append_assoc line.bytes (line_end line.newline ++ drop (size line) (held w)) left
+      ∙ ap (λ x. line.bytes ++ x) (append_assoc (line_end line.newline) (drop (size line) (held w)) left)
+      ∙ ap (λ h. line.bytes ++ (line_end line.newline ++ (h ++ left))) (sym t.held)
+      ∙ ap (λ l. l ++ (line_end line.newline ++ (held w2 ++ left))) (sym t.bytes)
+      ∙ sym (append_assoc (between a b w2.buf.items) (line_end line.newline) (held w2 ++ left)),
 )
 splits_of w w2 line left old found.End t cut e = absurd t
 splits_of w w2 line left old found.TooLong t cut e = ap (λ (h : Held). h.bytes ++ left) t.1 ∙ e
@@ -77,7 +78,14 @@ last_of (b ∷ bytes) h p = lines_last b bytes p
 
 pub first_last : (len : ℕ) (bytes left : List ℕ) → len ≡ length bytes → 0 < len → left ≡ [] → NoNewline bytes
     → lines (bytes ++ left) ≡ record { bytes = take len bytes; newline = false } ∷ lines (drop (length (take len bytes) + 0) bytes ++ left)
-first_last len bytes left n h e p = ?
+first_last len bytes left n h e p =
+    let all : take len bytes ≡ bytes = take_all len bytes (omega arith) in
+    let none : drop (length (take len bytes) + 0) bytes ≡ [] = drop_all (length (take len bytes) + 0) bytes (omega (arith, ap length all)) in
+    ap (λ l. lines (bytes ++ l)) e
+    ∙ ap lines (append-nil bytes)
+    ∙ last_of bytes (omega arith) p
+    ∙ ap (λ b. record { bytes = b; newline = false } ∷ []) (sym all)
+    ∙ ap (λ ls. record { bytes = take len bytes; newline = false } ∷ ls) (sym lines_nil ∙ ap lines (sym (ap (λ l. drop (length (take len bytes) + 0) bytes ++ l) e ∙ ap (λ d. d ++ []) none)))
 
 -- a front without a newline that is too long decides its line
 pub begins_long : (from : Held) (front left old : List ℕ) → front ++ left ≡ old → NoNewline front

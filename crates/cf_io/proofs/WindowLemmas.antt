@@ -1,4 +1,4 @@
-use Rattle.std.proofs.Common.{ℕ, zero, suc, ◌≡◌, ◌≢◌, ◌+◌, ◌-◌, ◌<◌, ◌≤◌, List, [], ◌∷◌, ◌++◌, length, get_or, take, drop, slice_index, refl, ap, sym, ◌∙◌, arith, subst, append_assoc, length-append, length-drop}
+use Rattle.std.proofs.Common.{ℕ, zero, suc, ◌≡◌, ◌≢◌, ◌+◌, ◌-◌, ◌<◌, ◌≤◌, List, [], ◌∷◌, ◌++◌, length, take, drop, slice_index, refl, ap, sym, ◌∙◌, arith, subst, append_assoc, length-drop}
 use Rattle.std.proofs.Math.Seq.{take-add}
 use Rattle.std.proofs.lemmas.List.{drop-drop, drop-take, length-take, take-take, take_at}
 use Rattle.cf_reference.specs.Lines.{NoNewline}
@@ -16,8 +16,8 @@ pub plain_seen : (seen i : ℕ) (bytes behind : List ℕ) → seen + i ≤ lengt
     → ((k : ℕ) → k < i → slice_index behind k ≢ 10) → NoNewline (take (seen + i) bytes)
 plain_seen seen i bytes behind h e p q =
     subst NoNewline (sym (take-add seen i bytes))
-        (plain_append (take seen bytes) (take i (drop seen bytes)) p
-            (subst (λ w. NoNewline (take i w)) e (plain_take i behind (omega (arith, length-drop seen bytes, ap length e)) q)))
+    (plain_append (take seen bytes) (take i (drop seen bytes)) p
+    (subst (λ w. NoNewline (take i w)) e (plain_take i behind (omega (arith, length-drop seen bytes, ap length e)) q)))
 
 -- what two buffers with one front have between two places of it
 pub between_kept : (from upto : ℕ) (a b : List ℕ) → from ≤ upto → take upto a ≡ take upto b → between from upto a ≡ between from upto b

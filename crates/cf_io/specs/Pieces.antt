@@ -1,4 +1,4 @@
-use Rattle.std.specs.Prelude.{ℕ, ◌-◌, ◌%◌, ◌==◌, nat_lt, min, Bool, List, if◌then◌else◌}
+use Rattle.std.specs.Prelude.{ℕ, ◌-◌, ◌%◌, ◌==◌, nat_lt, min, Bool, if◌then◌else◌}
 use Rattle.std.specs.List.{list_any}
 use Rattle.cf_io.specs.declared.calls.Calls.{Calls}
 

@@ -1,4 +1,4 @@
-use Rattle.std.specs.Prelude.{ℕ, ◌≡◌, ◌+◌, ◌≤◌, ◌-◌, List, take, drop, length, Bool}
+use Rattle.std.specs.Prelude.{ℕ, ◌≡◌, ◌+◌, ◌≤◌, ◌-◌, List, take, drop, length}
 use Rattle.cf_reference.specs.Lines as lines
 use Rattle.cf_reference.specs.Lines.{Line, fit, line_end, size}
 use Rattle.cf_io.specs.Held.{Held}

@@ -1,6 +1,6 @@
-use Rattle.std.proofs.Common.{◌≡◌, ◌+◌, ◌∙◌, ap, sym, arith, take, drop, length, refl}
+use Rattle.std.proofs.Common.{◌+◌, ◌∙◌, ap, sym, arith, take, drop, refl}
 use Rattle.std.proofs.lemmas.List.{length-take-le}
-use Rattle.cf_io.specs.Windows.{held, between}
+use Rattle.cf_io.specs.Windows.{held}
 use Rattle.cf_io.proofs.WindowLemmas.{between_drop, take_between}
 use Rattle.cf_io.proofs.HandLemmas.{sizes, fitting}
 use Rattle.cf_io.proofs.lines.hand_out.Goals as goal

@@ -1,4 +1,4 @@
-use Rattle.std.proofs.Common.{◌≡◌, ◌∙◌, ◌+◌, ap, refl, arith, List}
+use Rattle.std.proofs.Common.{◌∙◌, ◌+◌, ap, arith}
 use Rattle.std.proofs.lemmas.List.{with_items_is}
 use Rattle.cf_io.specs.Windows.{held, between}
 use Rattle.cf_io.specs.Held.{Held}
@@ -10,38 +10,37 @@ returns-in-Got-clause-stream g c = λ told.
     let w = c.make_room.new.window in
     let new = c.read_behind-got.new.buf in
     stream_kept w.from w.upto c.in-Got.count (w.upto + c.in-Got.count) _ new c.deref_mut.result.now (held c.args.window.now) _ _
-        (with_items_is w.buf new (c.read_behind-got.ensures.room ∙ c.deref_mut.ensures.len)) c.make_room.ensures.sound.ordered (omega arith) c.read_behind-got.ensures.kept
-        (ap (between w.from w.upto) c.deref_mut.ensures.value ∙ ap (λ (h : Held). h.bytes) c.make_room.ensures.same) (c.in-Got.ensures.bytes told)
+    (with_items_is w.buf new (c.read_behind-got.ensures.room ∙ c.deref_mut.ensures.len)) c.make_room.ensures.sound.ordered (omega arith) c.read_behind-got.ensures.kept
+    (ap (between w.from w.upto) c.deref_mut.ensures.value ∙ ap (λ (h : Held). h.bytes) c.make_room.ensures.same) (c.in-Got.ensures.bytes told)
 
 pub returns-in-End-clause-kept : goal.returns-in-End-clause-kept
 returns-in-End-clause-kept g c =
     let w = c.make_room.new.window in
     let new = c.read_behind-got.new.buf in
     front_kept w.from w.upto 0 w.upto _ new c.deref_mut.result.now (held c.args.window.now)
-        (with_items_is w.buf new (c.read_behind-got.ensures.room ∙ c.deref_mut.ensures.len)) c.make_room.ensures.sound.ordered (omega arith) c.read_behind-got.ensures.kept
-        (ap (between w.from w.upto) c.deref_mut.ensures.value ∙ ap (λ (h : Held). h.bytes) c.make_room.ensures.same)
+    (with_items_is w.buf new (c.read_behind-got.ensures.room ∙ c.deref_mut.ensures.len)) c.make_room.ensures.sound.ordered (omega arith) c.read_behind-got.ensures.kept
+    (ap (between w.from w.upto) c.deref_mut.ensures.value ∙ ap (λ (h : Held). h.bytes) c.make_room.ensures.same)
 
 pub returns-in-End-clause-stream : goal.returns-in-End-clause-stream
 returns-in-End-clause-stream g c = λ told.
     let w = c.make_room.new.window in
     let new = c.read_behind-got.new.buf in
     stream_kept w.from w.upto 0 w.upto _ new c.deref_mut.result.now (held c.args.window.now) _ _
-        (with_items_is w.buf new (c.read_behind-got.ensures.room ∙ c.deref_mut.ensures.len)) c.make_room.ensures.sound.ordered (omega arith) c.read_behind-got.ensures.kept
-        (ap (between w.from w.upto) c.deref_mut.ensures.value ∙ ap (λ (h : Held). h.bytes) c.make_room.ensures.same) (c.in-End.ensures.bytes told)
+    (with_items_is w.buf new (c.read_behind-got.ensures.room ∙ c.deref_mut.ensures.len)) c.make_room.ensures.sound.ordered (omega arith) c.read_behind-got.ensures.kept
+    (ap (between w.from w.upto) c.deref_mut.ensures.value ∙ ap (λ (h : Held). h.bytes) c.make_room.ensures.same) (c.in-End.ensures.bytes told)
 
 pub returns-in-Failed-clause-kept : goal.returns-in-Failed-clause-kept
 returns-in-Failed-clause-kept g c =
     let w = c.make_room.new.window in
     let new = c.read_behind-got.new.buf in
     front_kept w.from w.upto 0 w.upto _ new c.deref_mut.result.now (held c.args.window.now)
-        (with_items_is w.buf new (c.read_behind-got.ensures.room ∙ c.deref_mut.ensures.len)) c.make_room.ensures.sound.ordered (omega arith) c.read_behind-got.ensures.kept
-        (ap (between w.from w.upto) c.deref_mut.ensures.value ∙ ap (λ (h : Held). h.bytes) c.make_room.ensures.same)
+    (with_items_is w.buf new (c.read_behind-got.ensures.room ∙ c.deref_mut.ensures.len)) c.make_room.ensures.sound.ordered (omega arith) c.read_behind-got.ensures.kept
+    (ap (between w.from w.upto) c.deref_mut.ensures.value ∙ ap (λ (h : Held). h.bytes) c.make_room.ensures.same)
 
 pub returns-in-Failed-clause-stream : goal.returns-in-Failed-clause-stream
 returns-in-Failed-clause-stream g c = λ told.
     let w = c.make_room.new.window in
     let new = c.read_behind-got.new.buf in
     stream_kept w.from w.upto 0 w.upto _ new c.deref_mut.result.now (held c.args.window.now) _ _
-        (with_items_is w.buf new (c.read_behind-got.ensures.room ∙ c.deref_mut.ensures.len)) c.make_room.ensures.sound.ordered (omega arith) c.read_behind-got.ensures.kept
-        (ap (between w.from w.upto) c.deref_mut.ensures.value ∙ ap (λ (h : Held). h.bytes) c.make_room.ensures.same) (c.in-Failed.ensures.bytes told)
-
+    (with_items_is w.buf new (c.read_behind-got.ensures.room ∙ c.deref_mut.ensures.len)) c.make_room.ensures.sound.ordered (omega arith) c.read_behind-got.ensures.kept
+    (ap (between w.from w.upto) c.deref_mut.ensures.value ∙ ap (λ (h : Held). h.bytes) c.make_room.ensures.same) (c.in-Failed.ensures.bytes told)

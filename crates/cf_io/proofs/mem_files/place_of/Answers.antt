@@ -1,4 +1,4 @@
-use Rattle.std.proofs.Common.{◌≡◌, ◌+◌, ap, sym, ◌∙◌, arith, cond, Some, drop, map, true, false}
+use Rattle.std.proofs.Common.{◌+◌, ap, sym, ◌∙◌, arith, cond, Some, drop, map}
 use Rattle.std.specs.Str.{bytes_eq}
 use Rattle.std.proofs.lemmas.Slice.Eq.{bytes_eq-Decides}
 use Rattle.cf_io.specs.Opening.{content_of}

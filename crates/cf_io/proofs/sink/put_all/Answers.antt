@@ -1,4 +1,4 @@
-use Rattle.std.proofs.Common.{◌≡◌, ◌++◌, ap, arith, length-drop, IsTrue, take, drop, subst, ◌∙◌, sym, append_assoc}
+use Rattle.std.proofs.Common.{◌++◌, ap, arith, length-drop, IsTrue, take, drop, subst, ◌∙◌, sym, append_assoc}
 use Rattle.std.proofs.lemmas.List.{take_rest}
 use Rattle.std.proofs.Math.Seq.{take-add}
 use Rattle.cf_io.proofs.sink.put_all.Goals as goal
