@@ -1,10 +1,8 @@
 -- How the reference run goes from line to line.
-use Rattle.std.proofs.Common.{ℕ, ◌≡◌, ◌+◌, Bool, true, false, cond, List, [], ◌∷◌, ◌++◌, length, refl, ap, sym, ◌∙◌, append_assoc, append-nil}
-use Rattle.cf_reference.specs.Lines.{Line, Fit, Fits, LineTooLong, ScriptTooLong, fit, known_by, size}
-use Rattle.cf_reference.specs.Refusals as refusal
-use Rattle.cf_reference.specs.Statements.{parse}
-use Rattle.cf_reference.specs.Steps.{State, Outcome, Refuses, Goes}
-use Rattle.cf_reference.specs.Run.{step_parsed, carry_fitting, carry, text_of, state_of, refuses, Close, Done, Refused, Ending, adds, run_lines}
+use Rattle.std.proofs.Common.{ℕ, ◌≡◌, ◌+◌, Bool, true, false, cond, List, [], ◌∷◌, ◌++◌, refl, ap, sym, ◌∙◌, append_assoc, append-nil}
+use Rattle.cf_reference.specs.Lines.{Line, Fit, fit, known_by, size}
+use Rattle.cf_reference.specs.Steps.{State, Outcome}
+use Rattle.cf_reference.specs.Run.{carry_fitting, carry, text_of, state_of, refuses, Done, Refused, Ending, adds, run_lines}
 
 pub adds-adds : (a b : List ℕ) (end : Ending) → adds a (adds b end) ≡ adds (a ++ b) end
 adds-adds a b end = ap (λ text. record { text = text; close = end.close; state = end.state; read = end.read }) (sym (append_assoc a b end.text))

@@ -1,7 +1,7 @@
 -- How a run that has come some way stands to the reference run.
-use Rattle.std.proofs.Common.{ℕ, ◌≡◌, ◌+◌, ◌≤◌, Bool, true, false, List, [], ◌∷◌, ◌++◌, length, take, drop, refl, ap, sym, ◌∙◌, subst, arith, append_assoc, append-nil}
+use Rattle.std.proofs.Common.{ℕ, ◌≡◌, ◌+◌, ◌≤◌, true, false, List, [], ◌∷◌, ◌++◌, take, drop, refl, ap, sym, ◌∙◌, subst, append_assoc, append-nil}
 use Rattle.std.proofs.lemmas.List.{take-append-drop}
-use Rattle.cf_reference.specs.Lines.{Line, Fit, Fits, fit, known_by, size, lines}
+use Rattle.cf_reference.specs.Lines.{Line, fit, known_by, size, lines}
 use Rattle.cf_reference.specs.Steps.{State, Outcome}
 use Rattle.cf_reference.specs.Run.{Close, Done, Refused, Ending, adds, run_lines, carry, text_of, state_of, refuses}
 use Rattle.cf_reference.proofs.RunLaws.{adds-adds, run_lines-nil, run_lines-goes, run_lines-refused, run_lines-text}

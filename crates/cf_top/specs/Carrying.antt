@@ -1,4 +1,4 @@
-use Rattle.std.specs.Prelude.{ℕ, ◌≡◌, List, ◌++◌, Bool, true, false}
+use Rattle.std.specs.Prelude.{ℕ, ◌≡◌, List, ◌++◌, true, false}
 use Rattle.cf_reference.specs.Steps.{State, Outcome}
 use Rattle.cf_reference.specs.Run.{text_of, state_of, refuses}
 use Rattle.cf_top.specs.Ends.{AppendsFront}

@@ -1,4 +1,4 @@
-use Rattle.std.specs.Prelude.{ℕ, ◌≡◌, ◌+◌, ◌≤◌, List, ◌++◌, Bool, true, false}
+use Rattle.std.specs.Prelude.{ℕ, ◌≡◌, ◌+◌, ◌≤◌, List, ◌++◌}
 use Rattle.cf_reference.specs.Run.{Close, Done, Refused, Usage, Ending}
 use Rattle.cf_top.specs.declared.status.Status.{Status}
 use Rattle.cf_top.specs.declared.status.Status.TheVariants as status

@@ -122,7 +122,10 @@ fn refuse<K: Sink>(refusal: Refusal, number: u64, out: &mut K) -> Status
     ensures later { K.faults out.old ≤ K.faults out.new }
     ensures write { result ≡ Status.WriteFault → Rose (K.faults out.old) (K.faults out.new) }
 {
-    if put_all(out, refused_text(number, refusal.number(), Detail::Nothing).bytes()) {
+    if put_all(
+        out,
+        refused_text(number, refusal.number(), Detail::Nothing).bytes(),
+    ) {
         Status::Refused
     } else {
         Status::WriteFault
