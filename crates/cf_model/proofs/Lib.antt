@@ -1,2 +1,6 @@
 pub mod AssignmentLaws
 pub mod AssignmentExamples
+pub mod Growth
+pub mod CanonLaws
+pub mod RenumberingLaws
+pub mod RenumberingExamples
