@@ -4,3 +4,5 @@ pub mod Growth
 pub mod CanonLaws
 pub mod RenumberingLaws
 pub mod RenumberingExamples
+pub mod FlatFunctionLaws
+pub mod FlatFunctionExamples
