@@ -1,6 +1,6 @@
 use Rattle.std.proofs.Common.{◌≡◌, true, false, [], ◌∷◌, Some, None, refl, inl, inr}
 use Rattle.std.specs.Prelude.{codes}
-use Rattle.cf_model.specs.Assignments.{number_of, bits_of, bits, digits_of, bits_of_text, first_half, second_half, weave, row_of, column_of, unweave, with_bit, is_less, IsLexBefore, all_bits}
+use Rattle.cf_model.specs.Assignments.{number_of, bits_of, bits, digits_of, bits_of_text, first_half, second_half, weave, row_of, column_of, unweave, bit_at, with_bit, is_less, IsLexBefore, all_bits}
 
 -- the first bit is the highest: 100 has number 4, and 001 has number 1
 number_of_100 : number_of (true ∷ false ∷ false ∷ []) ≡ 4
@@ -62,6 +62,12 @@ row_of_01 = refl
 
 column_of_01 : column_of (false ∷ true ∷ []) ≡ true ∷ []
 column_of_01 = refl
+
+bit_0_of_10 : bit_at (true ∷ false ∷ []) 0 ≡ true
+bit_0_of_10 = refl
+
+bit_1_of_10 : bit_at (true ∷ false ∷ []) 1 ≡ false
+bit_1_of_10 = refl
 
 with_bit_0 : with_bit (false ∷ false ∷ []) 0 true ≡ true ∷ false ∷ []
 with_bit_0 = refl

@@ -2,7 +2,7 @@ use Rattle.std.proofs.Common.{◌≡◌, ◌^◌, ◌-◌, pos, negsuc, true, fa
 use Rattle.std.specs.Ordering.{int_eq}
 use Rattle.cf_model.specs.Assignments.{number_of, all_bits}
 use Rattle.cf_model.specs.Values.{Fits, fits, fitting, and_then}
-use Rattle.cf_model.specs.FlatFunctions.{points, IsAssignment, FlatFunction, IsFlatFunction, value_at, tabulated, IsLeast, first_passing}
+use Rattle.cf_model.specs.FlatFunctions.{points, IsAssignment, FlatFunction, IsFlatFunction, value_at, tabulated, variable, IsLeast, first_passing}
 
 -- the edges of the range, and the numbers past them
 fits_greatest : fits (pos (2 ^ 127 - 1)) ≡ true
@@ -79,6 +79,14 @@ tabulated_number = refl
 tabulated_constant : tabulated 0 (λ bits. pos 9) ≡ record { level = 0; values = pos 9 ∷ pos 9 ∷ [] }
 unfolding all_bits
 tabulated_constant = refl
+
+variable_1 : variable 1 1 ≡ second_variable
+unfolding all_bits
+variable_1 = refl
+
+variable_0 : variable 1 0 ≡ record { level = 1; values = pos 0 ∷ pos 0 ∷ pos 1 ∷ pos 1 ∷ [] }
+unfolding all_bits
+variable_0 = refl
 
 first_5 : first_passing (int_eq (pos 5)) five_at_10 ≡ Some (true ∷ false ∷ [])
 first_5 = refl

@@ -6,3 +6,5 @@ pub mod RenumberingLaws
 pub mod RenumberingExamples
 pub mod FlatFunctionLaws
 pub mod FlatFunctionExamples
+pub mod PatternLaws
+pub mod PatternExamples

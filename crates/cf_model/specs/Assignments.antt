@@ -1,4 +1,4 @@
-use Rattle.std.specs.Prelude.{◌≡◌, ℕ, zero, suc, ◌+◌, ◌*◌, ◌/◌, ◌%◌, ◌^◌, ◌==◌, ◌&&◌, ◌||◌, ◌⊎◌, nat_lt, nat_le, Bool, true, false, List, [], ◌∷◌, ◌++◌, length, map, fold, take, drop, slice_set, Option, Some, None, if◌then◌else◌}
+use Rattle.std.specs.Prelude.{◌≡◌, ℕ, zero, suc, ◌+◌, ◌*◌, ◌/◌, ◌%◌, ◌^◌, ◌==◌, ◌&&◌, ◌||◌, ◌⊎◌, nat_lt, nat_le, Bool, true, false, List, [], ◌∷◌, ◌++◌, length, map, fold, take, drop, slice_set, slice_index_or, Option, Some, None, if◌then◌else◌}
 use Rattle.std.specs.List.{list_all}
 
 -- An assignment of level k is a list of 2 ^ k bits, the first variable first. Its number reads the first bit
@@ -63,7 +63,11 @@ column_of (r ∷ c ∷ more) = c ∷ column_of more
 abbrev pub unweave : List Bool → List Bool × List Bool
 unweave bits = (row_of bits, column_of bits)
 
--- the assignment with bit i set to b, bits being counted from 0
+-- bit i of an assignment, bits being counted from 0
+abbrev pub bit_at : List Bool → ℕ → Bool
+bit_at bits i = slice_index_or bits i false
+
+-- the assignment with bit i set to b
 abbrev pub with_bit : List Bool → ℕ → Bool → List Bool
 with_bit bits i b = slice_set bits i b
 

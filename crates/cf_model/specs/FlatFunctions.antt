@@ -1,5 +1,5 @@
-use Rattle.std.specs.Prelude.{◌≡◌, ◌≤◌, ◌<◌, ℕ, zero, suc, ℤ, ◌*◌, ◌^◌, Bool, List, length, map, Option, All, option_map, slice_get, position}
-use Rattle.cf_model.specs.Assignments.{number_of, bits_of, all_bits}
+use Rattle.std.specs.Prelude.{◌≡◌, ◌≤◌, ◌<◌, ℕ, zero, suc, ℤ, pos, if◌then◌else◌, ◌*◌, ◌^◌, Bool, List, length, map, Option, All, option_map, slice_get, position}
+use Rattle.cf_model.specs.Assignments.{number_of, bits_of, bit_at, all_bits}
 use Rattle.cf_model.specs.Values.{Fits}
 
 -- how many assignments a level has: 2^(2^level), the points of its functions
@@ -29,6 +29,10 @@ value_at f bits = slice_get f.values (number_of bits)
 -- The flat function of a level that has these values.
 abbrev pub tabulated : ℕ → (List Bool → ℤ) → FlatFunction
 tabulated level value = record { level = level; values = map value (all_bits (2 ^ level)) }
+
+-- the variable at position i: it gives bit i
+abbrev pub variable : ℕ → ℕ → FlatFunction
+variable level i = tabulated level (λ bits. if bit_at bits i then pos 1 else pos 0)
 
 -- The assignment is the least one of its level with the property: it has it, and no smaller one does.
 pub record IsLeast (level : ℕ) (P : List Bool → Type 0) (bits : List Bool) : Type 0 where
