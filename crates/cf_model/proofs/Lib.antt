@@ -8,3 +8,7 @@ pub mod FlatFunctionLaws
 pub mod FlatFunctionExamples
 pub mod PatternLaws
 pub mod PatternExamples
+pub mod Canonicity
+pub mod Growing
+pub mod Entries
+pub mod Callees
