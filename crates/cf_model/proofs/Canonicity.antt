@@ -21,13 +21,13 @@ map_same (x ∷ xs) = ap (λ (ys : List ℕ). x ∷ ys) (map_same xs)
 abbrev made_conn : ℕ → List ℕ → Connection
 made_conn t r = record { callee = t; returns = r }
 
-conn_same : (a b : Connection) → a.callee ≡ b.callee → a.returns ≡ b.returns → a ≡ b
+pub conn_same : (a b : Connection) → a.callee ≡ b.callee → a.returns ≡ b.returns → a ≡ b
 conn_same a b h k = ap (λ (t : ℕ). made_conn t a.returns) h ∙ ap (λ (r : List ℕ). made_conn b.callee r) k
 
 abbrev made_node : ℕ → List Connection → Node
 made_node t r = record { a_callee = t; connections = r }
 
-node_same : (a b : Node) → a.a_callee ≡ b.a_callee → a.connections ≡ b.connections → a ≡ b
+pub node_same : (a b : Node) → a.a_callee ≡ b.a_callee → a.connections ≡ b.connections → a ≡ b
 node_same a b h k = ap (λ (t : ℕ). made_node t a.connections) h ∙ ap (λ (r : List Connection). made_node b.a_callee r) k
 
 -- the row of a good connection gives out its return list

@@ -12,3 +12,5 @@ pub mod Canonicity
 pub mod Growing
 pub mod Entries
 pub mod Callees
+pub mod GoodnessFacts
+pub mod DiagramExamples
