@@ -14,3 +14,5 @@ pub mod Entries
 pub mod Callees
 pub mod GoodnessFacts
 pub mod DiagramExamples
+pub mod MatrixLaws
+pub mod MatrixExamples
