@@ -16,3 +16,5 @@ pub mod GoodnessFacts
 pub mod DiagramExamples
 pub mod MatrixLaws
 pub mod MatrixExamples
+pub mod TermLaws
+pub mod TermExamples
