@@ -1,4 +1,4 @@
-use Rattle.std.specs.Prelude.{ℕ, zero, suc, ◌+◌, ◌*◌, ◌/◌, ◌%◌, ◌^◌, ◌==◌, ◌&&◌, ◌||◌, nat_le, Bool, List, [], ◌∷◌, length, map, fold, Option, Some, None, if◌then◌else◌}
+use Rattle.std.specs.Prelude.{◌≡◌, ℕ, zero, suc, ◌+◌, ◌*◌, ◌/◌, ◌%◌, ◌^◌, ◌==◌, ◌&&◌, ◌||◌, ◌⊎◌, nat_lt, nat_le, Bool, true, false, List, [], ◌∷◌, ◌++◌, length, map, fold, take, drop, slice_set, slice_index_or, Option, Some, None, if◌then◌else◌}
 use Rattle.std.specs.List.{list_all}
 
 -- An assignment of level k is a list of 2 ^ k bits, the first variable first. Its number reads the first bit
@@ -33,3 +33,55 @@ are_digits text = list_all (λ b. b == 48 || b == 49) text
 abbrev pub bits_of_text : List ℕ → Option (List Bool)
 bits_of_text text =
     if nat_le 1 (length text) && nat_le (length text) 128 && are_digits text then Some (map (λ b. b == 49) text) else None
+
+-- the first half of the variables, which the A-callee of a grouping reads
+abbrev pub first_half : List Bool → List Bool
+first_half bits = take (length bits / 2) bits
+
+-- the second half of the variables, which the B-callee reads
+abbrev pub second_half : List Bool → List Bool
+second_half bits = drop (length bits / 2) bits
+
+-- A row index and a column index as one assignment: row bit 0, column bit 0, row bit 1, and so on.
+abbrev pub weave : List Bool → List Bool → List Bool
+weave [] col = []
+weave (r ∷ row) [] = []
+weave (r ∷ row) (c ∷ col) = r ∷ c ∷ weave row col
+
+-- the row index of an assignment: every other bit, from the first
+abbrev pub row_of : List Bool → List Bool
+row_of [] = []
+row_of (r ∷ []) = r ∷ []
+row_of (r ∷ c ∷ more) = r ∷ row_of more
+
+-- the column index of an assignment: every other bit, from the second
+abbrev pub column_of : List Bool → List Bool
+column_of [] = []
+column_of (r ∷ []) = []
+column_of (r ∷ c ∷ more) = c ∷ column_of more
+
+abbrev pub unweave : List Bool → List Bool × List Bool
+unweave bits = (row_of bits, column_of bits)
+
+-- bit i of an assignment, bits being counted from 0
+abbrev pub bit_at : List Bool → ℕ → Bool
+bit_at bits i = slice_index_or bits i false
+
+-- the assignment with bit i set to b
+abbrev pub with_bit : List Bool → ℕ → Bool → List Bool
+with_bit bits i b = slice_set bits i b
+
+-- assignments of one level are ordered by their numbers
+abbrev pub is_less : List Bool → List Bool → Bool
+is_less xs ys = nat_lt (number_of xs) (number_of ys)
+
+-- Lists of bits by the first place at which they differ, 0 before 1.
+abbrev pub IsLexBefore : List Bool → List Bool → Type 0
+IsLexBefore xs [] = ⊥
+IsLexBefore [] (y ∷ ys) = Unit {0}
+IsLexBefore (x ∷ xs) (y ∷ ys) = ((x ≡ false) × (y ≡ true)) ⊎ ((x ≡ y) × IsLexBefore xs ys)
+
+-- all lists of k bits, in the order of their numbers
+unfoldable pub all_bits : ℕ → List (List Bool)
+all_bits zero = [] ∷ []
+all_bits (suc k) = map (λ bits. false ∷ bits) (all_bits k) ++ map (λ bits. true ∷ bits) (all_bits k)

@@ -1,0 +1,5 @@
+use Rattle.cf_model.proofs.Canonicity.{canonical}
+use Rattle.cf_model.proofs.laws.equal_patterns_equal_places.Goals as goal
+
+pub returns : goal.returns
+returns c = canonical
