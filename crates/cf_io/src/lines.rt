@@ -25,6 +25,7 @@ const BUFFER: usize = 262_148;
 
 /// What a read of a line gave: the line without its line end, the end of input, a line or a script that is too long, or a
 /// failure of the source.
+#[derive(Clone, Copy, Debug)]
 pub enum Next<'a> {
     Line(&'a [u8]),
     End,
