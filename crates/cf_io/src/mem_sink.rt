@@ -1,8 +1,9 @@
 ghost use Rattle.std.specs.Prelude.{◌≡◌, ℕ, ◌+◌, ◌<◌, ◌≤◌, Bool, true, List, [], ◌++◌, length, take, vec_len, IsTrue, IfOk};
 
+use crate::NoMemory;
 use crate::calls::Calls;
 use crate::sink::{Put, Sink};
-use std::alloc::{AllocError, Global};
+use std::alloc::Global;
 
 /// A sink in memory with a fixed room. A write takes at most `piece` bytes, and fails where the sink is full. The calls
 /// fail whose numbers, counted from 0, are listed.
@@ -25,7 +26,7 @@ impl MemSink {
         room: usize,
         piece: usize,
         fails: Vec<u64>,
-    ) -> Result<MemSink, AllocError>
+    ) -> Result<MemSink, NoMemory>
         requires { 1 ≤ piece }
         ensures writer { IfOk result (λ s. writer s ≡ record { written = []; room = room; piece = piece; fails = fails.items; calls = 0 }) }
         ensures tells { IfOk result (λ s. IsTrue (⟦<MemSink as Sink>⟧.tells s)) }
