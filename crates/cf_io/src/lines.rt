@@ -103,7 +103,10 @@ impl Lines {
             × (IsTrue (S.tells source.old) → Splits (self.old.bytes ++ S.left source.old) (new.bytes ++ S.left source.new) (answer_of result))
             × (IsTrue (S.tells source.old) → (IsTrue self.old.ended → S.left source.old ≡ []) →
             HandsOut self.old (self.old.bytes ++ S.left source.old) new (new.bytes ++ S.left source.new) (answer_of result)
-            × (IsTrue new.ended → S.left source.new ≡ [])))) }
+            × (IsTrue new.ended → S.left source.new ≡ []))
+            × (IsTrue (S.tells source.old) →
+            Takes self.old new (S.left source.old) (S.left source.new) (S.read_bytes source.old) (S.read_bytes source.new) (answer_of result)))) }
+        ensures quiet { IsTrue self.old.ended → source.new ≡ source.old }
         ensures told { S.tells source.new ≡ S.tells source.old }
         ensures later { S.faults source.old ≤ S.faults source.new }
         ensures cause { IsReadFault (answer_of result) → Rose (S.faults source.old) (S.faults source.new) }
