@@ -3,8 +3,26 @@ use crate::{
     Source, put_all,
 };
 use std::alloc::Global;
+use std::io::{self, Write};
 use std::process::Abort;
 use std::test::Fail;
+
+/// A writer that takes two bytes at once and counts its flushes.
+#[derive(Drop)]
+struct Flushed {
+    flushes: usize,
+}
+
+impl Write for Flushed {
+    fn write(&mut self, buf: &[u8]) -> io::Result<usize> {
+        Ok(buf.len().min(2))
+    }
+
+    fn flush(&mut self) -> io::Result<()> {
+        self.flushes = self.flushes.saturating_add(1);
+        Ok(())
+    }
+}
 
 /// Lists the lines of a source, each with a bar behind it, and then a letter for the last answer.
 fn listed<S: Source>(alloc: Global, source: &mut S) -> Result<Vec<u8>, Fail> {
@@ -147,6 +165,10 @@ fn adapters_of_memory(rt: HostRuntime) -> Result<(), Fail> {
     let mut source = HostSource::new(b"one\ntwo".as_slice());
     let text = listed(alloc, &mut source)?;
     assert_eq!(rt; text.as_slice(), b"one|two|E".as_slice());
+    let mut writer = Flushed { flushes: 0 };
+    let mut sink = HostSink::new(&mut writer);
+    assert!(rt; put_all(&mut sink, b"texts"));
+    assert_eq!(rt; writer.flushes, 3);
     let mut written: Vec<u8> = Vec::new(alloc);
     let mut sink = HostSink::new(&mut written);
     assert!(rt; put_all(&mut sink, b"text"));
