@@ -1,6 +1,6 @@
-use Rattle.std.proofs.Common.{◌≡◌, ℕ, zero, suc, ◌<◌, pos, true, false, List, [], ◌∷◌, Some, refl, ap, arith}
+use Rattle.std.proofs.Common.{◌≡◌, ℕ, zero, suc, ◌<◌, List, [], ◌∷◌, refl, ap, arith}
 use Rattle.cf_model.specs.Patterns.{sub, cut_into}
-use Rattle.cf_model.specs.Diagrams.{Levels, Connection, Node, no_connection, no_node, exit_at, connection_at, nodes, count, node, row, spell, pattern, all_returns, exits, IsGoodConnection, IsGoodNode, IsGood, Extends, with_node, function_value, HasPattern, HasPatterns}
+use Rattle.cf_model.specs.Diagrams.{Levels, Connection, Node, no_connection, no_node, exit_at, connection_at, nodes, count, node, row, spell, pattern, all_returns, exits, IsGoodConnection, IsGoodNode, IsGood, Extends, with_node, HasPattern, HasPatterns}
 use Rattle.cf_model.proofs.GoodnessFacts.{TwoBaseGroupings, ACalleesExist, MiddlesMatchExits, BCalleesExist, EntriesMatchExits, NoEntryTwice, FirstReach, NoEqualConnections, NoEqualNodes, broken_facts, good_from_tests}
 use Rattle.cf_model.proofs.Growing.{with_node_extends}
 
@@ -203,13 +203,6 @@ more_extends = with_node_extends (table (second ∷ first ∷ [])) 1 conjunction
 -- a table whose groupings moved extends nothing
 moved_does_not_extend : Extends (table (second ∷ first ∷ [])) (table (first ∷ second ∷ [])) → ⊥
 moved_does_not_extend x = omega (arith, ap (λ (n : Node). n.a_callee) (x.kept 1 0 (omega arith)))
-
--- the value of exit 1 at 11, and of exit 0 at 01
-value_of_conjunction : function_value (0 ∷ 0 ∷ 0 ∷ 1 ∷ []) (pos 5 ∷ pos 7 ∷ []) (true ∷ true ∷ []) ≡ Some (pos 7)
-value_of_conjunction = refl
-
-value_of_conjunction_01 : function_value (0 ∷ 0 ∷ 0 ∷ 1 ∷ []) (pos 5 ∷ pos 7 ∷ []) (false ∷ true ∷ []) ≡ Some (pos 5)
-value_of_conjunction_01 = refl
 
 four_have_0001 : HasPattern four (record { level = 1; ranks = 0 ∷ 0 ∷ 0 ∷ 1 ∷ [] })
 unfolding pattern

@@ -21,3 +21,5 @@ pub mod TermExamples
 pub mod PointwiseExamples
 pub mod PairSumLaws
 pub mod PairSumExamples
+pub mod FunctionLaws
+pub mod FunctionExamples

@@ -1,5 +1,4 @@
-use Rattle.std.specs.Prelude.{◌≡◌, ℕ, zero, suc, ◌<◌, ◌≤◌, Bool, List, [], ◌∷◌, ◌++◌, slice_set, slice_get, map, length, Option, option_and_then, slice_index_or as get_or, flat_map}
-use Rattle.cf_model.specs.Assignments.{number_of}
+use Rattle.std.specs.Prelude.{◌≡◌, ℕ, zero, suc, ◌<◌, ◌≤◌, List, [], ◌∷◌, ◌++◌, slice_set, map, length, slice_index_or as get_or, flat_map}
 use Rattle.cf_model.specs.Renumbering.{width, Grows, IsApart}
 use Rattle.cf_model.specs.Patterns.{Pattern}
 
@@ -101,11 +100,6 @@ pub record Extends (t u : Levels) : Type 0 where
 -- the table with one more node at the end of a level
 abbrev pub with_node : Levels → ℕ → Node → Levels
 with_node t level n = slice_set t level (nodes t level ++ n ∷ [])
-
--- A function as the package keeps it (a CFLOBDD): a grouping and the value of each of its exits. Its value at an
--- assignment is that of the exit which its pattern has there.
-abbrev pub function_value : {A : Type 0} → List ℕ → List A → List Bool → Option A
-function_value ranks labels bits = option_and_then (slice_get labels) (slice_get ranks (number_of bits))
 
 -- A grouping of the table has the pattern.
 abbrev pub HasPattern : Levels → Pattern → Type 0
