@@ -1,7 +1,9 @@
-use Rattle.std.proofs.Common.{◌≡◌, ℕ, zero, suc, ◌<◌, List, [], ◌∷◌, refl, ap, arith}
+use Rattle.std.proofs.Common.{ℕ, List, length, ◌≡◌, ℕ, zero, suc, ◌<◌, List, [], ◌∷◌, refl, ap, arith}
 use Rattle.cf_model.specs.Patterns.{sub, cut_into}
 use Rattle.cf_model.specs.Diagrams.{Levels, Connection, Node, no_connection, no_node, exit_at, connection_at, nodes, count, node, row, spell, pattern, all_returns, exits, IsGoodConnection, IsGoodNode, IsGood, Extends, with_node, HasPattern, HasPatterns}
 use Rattle.cf_model.proofs.GoodnessFacts.{TwoBaseGroupings, ACalleesExist, MiddlesMatchExits, BCalleesExist, EntriesMatchExits, NoEntryTwice, FirstReach, NoEqualConnections, NoEqualNodes, broken_facts, good_from_tests}
+use Rattle.std.specs.Prelude.{◌^◌}
+use Rattle.cf_model.proofs.Canonicity.{pattern_full}
 use Rattle.cf_model.proofs.Growing.{with_node_extends}
 
 -- the places of the two groupings of level 0
@@ -207,6 +209,17 @@ moved_does_not_extend x = omega (arith, ap (λ (n : Node). n.a_callee) (x.kept 1
 four_have_0001 : HasPattern four (record { level = 1; ranks = 0 ∷ 0 ∷ 0 ∷ 1 ∷ [] })
 unfolding pattern
 four_have_0001 = (2, omega arith, refl)
+
+four_have_01 : HasPattern four (record { level = 0; ranks = 0 ∷ 1 ∷ [] })
+unfolding pattern
+four_have_01 = (fork, omega arith, refl)
+
+four_have_nothing : HasPatterns four []
+four_have_nothing = tt
+
+-- a grouping of level 7: its pattern of 2^128 entries is never made
+pattern_of_level_7 : (t : Levels) → IsGood t → (i : ℕ) → i < count t 7 → length (pattern t 7 i) ≡ 2 ^ 128
+pattern_of_level_7 t g i h = pattern_full t g 7 i h
 
 four_have_its_parts : HasPatterns four (sub 1 (0 ∷ 0 ∷ 0 ∷ 1 ∷ []))
 unfolding pattern sub cut_into

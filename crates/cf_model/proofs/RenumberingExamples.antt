@@ -72,6 +72,13 @@ note_new = refl
 rgs_on_seen : rgs_on nat_eq (7 ∷ []) (5 ∷ 7 ∷ []) ≡ 1 ∷ 0 ∷ []
 rgs_on_seen = refl
 
+rgs_on_seen_none : rgs_on nat_eq (7 ∷ 5 ∷ []) [] ≡ []
+rgs_on_seen_none = refl
+
+-- what was seen comes first, read or not
+distinct_on_unread : distinct_on nat_eq (7 ∷ 5 ∷ []) [] ≡ 7 ∷ 5 ∷ []
+distinct_on_unread = refl
+
 distinct_on_seen : distinct_on nat_eq (7 ∷ []) (5 ∷ 7 ∷ []) ≡ 7 ∷ 5 ∷ []
 distinct_on_seen = refl
 

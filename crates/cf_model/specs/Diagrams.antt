@@ -18,6 +18,7 @@ pub record Node : Type 0 where
 abbrev pub Levels : Type 0
 Levels = List (List Node)
 
+-- what is read past the end of a list of B-connections, and of a level; no law rests on it
 abbrev pub no_connection : Connection
 no_connection = record { callee = 0; returns = [] }
 
@@ -32,6 +33,7 @@ exit_at b i = get_or b.returns i 0
 abbrev pub connection_at : List Connection → ℕ → Connection
 connection_at bs j = get_or bs j no_connection
 
+-- the nodes of a level
 abbrev pub nodes : Levels → ℕ → List Node
 nodes t level = get_or t level []
 
@@ -52,7 +54,8 @@ row patterns b = map (exit_at b) (patterns b.callee)
 abbrev pub spell : (ℕ → List ℕ) → Node → List ℕ
 spell patterns n = flat_map (λ j. row patterns (connection_at n.connections j)) (patterns n.a_callee)
 
--- The pattern of grouping i of a level: the exit that it has at each assignment, in order.
+-- The pattern of grouping i of a level: the exit to which each assignment leads, in order of assignments. The A-callee
+-- leads the first half to a middle vertex, whose B-callee leads the second half to an exit.
 unfoldable pub pattern : Levels → ℕ → ℕ → List ℕ
 pattern t zero zero = 0 ∷ 0 ∷ []
 pattern t zero (suc i) = 0 ∷ 1 ∷ []
@@ -62,7 +65,8 @@ pattern t (suc level) i = spell (pattern t level) (node t (suc level) i)
 abbrev pub all_returns : List Connection → List ℕ
 all_returns bs = flat_map (λ b. b.returns) bs
 
--- how many exits grouping i of a level has
+-- how many exits (exit vertices) grouping i of a level has: 1 for DONT_CARE, 2 for FORK, and above level 0 the numbers
+-- that the return tuples give out
 abbrev pub exits : Levels → ℕ → ℕ → ℕ
 exits t zero zero = 1
 exits t zero (suc i) = 2

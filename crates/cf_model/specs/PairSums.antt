@@ -1,25 +1,28 @@
 use Rattle.std.specs.Prelude.{◌≡◌, ◌<◌, ◌⊎◌, ℕ, ℤ, pos, ◌*ℤ◌, ◌+◌, ◌*◌, ◌==◌, ◌&&◌, ◌||◌, nat_lt, Bool, List, [], ◌∷◌, map, filter, fold, sum_by, slice_index, slice_index_or, All, AllPairs, Option, if◌then◌else◌}
 use Rattle.cf_model.specs.Matrices.{bounded_sum}
 
--- A pair of exits with its coefficient, and a sum of such pairs. In the matrix product of two groupings it says how often
--- an exit of the first meets an exit of the second.
+-- a pair of exits, one of each of two groupings, with a coefficient
 abbrev pub PairTerm : Type 0
 PairTerm = (ℕ × ℕ) × ℕ
 
+-- A sum of exit pairs: what stands at an entry of a matrix product before values are put in. The coefficient says how
+-- often the two exits meet there.
 abbrev pub PairSum : Type 0
 PairSum = List PairTerm
 
+-- whether two pairs are equal
 abbrev pub same_pair : ℕ × ℕ → ℕ × ℕ → Bool
 same_pair p q = p.0 == q.0 && p.1 == q.1
 
--- the order of pairs: by the first exit, then by the second
+-- the order of pairs, as a test: by the first exit, then by the second
 abbrev pub pair_before : ℕ × ℕ → ℕ × ℕ → Bool
 pair_before p q = nat_lt p.0 q.0 || (p.0 == q.0 && nat_lt p.1 q.1)
 
+-- the same, as a fact
 abbrev pub IsPairBefore : ℕ × ℕ → ℕ × ℕ → Type 0
 IsPairBefore p q = (p.0 < q.0) ⊎ ((p.0 ≡ q.0) × (p.1 < q.1))
 
--- The pairs stand in order, each once, and the coefficients are positive.
+-- A list is a sum of exit pairs: the pairs stand in order, each once, and the coefficients are positive.
 pub record IsPairSum (sum : PairSum) : Type 0 where
   pub sorted : AllPairs (λ t u. IsPairBefore t.0 u.0) sum
   pub positive : All (λ t. 0 < t.1) sum
