@@ -18,10 +18,11 @@ pub record Node : Type 0 where
 abbrev pub Levels : Type 0
 Levels = List (List Node)
 
--- what is read past the end of a list of B-connections, and of a level; no law rests on it
+-- what is read past the end of a list of B-connections; no law rests on it
 abbrev pub no_connection : Connection
 no_connection = record { callee = 0; returns = [] }
 
+-- what is read past the end of a level; no law rests on it
 abbrev pub no_node : Node
 no_node = record { a_callee = 0; connections = [] }
 
