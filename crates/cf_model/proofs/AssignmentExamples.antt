@@ -111,6 +111,13 @@ lex_01_10 = inl (refl, refl)
 lex_10_11 : IsLexBefore (true ∷ false ∷ []) (true ∷ true ∷ [])
 lex_10_11 = inr (refl, inl (refl, refl))
 
+-- lists of two lengths: 011 comes before 10, though its number is greater
+lex_before_of_lengths : IsLexBefore (false ∷ true ∷ true ∷ []) (true ∷ false ∷ [])
+lex_before_of_lengths = inl (refl, refl)
+
+less_of_lengths : is_less (false ∷ true ∷ true ∷ []) (true ∷ false ∷ []) ≡ false
+less_of_lengths = refl
+
 all_of_one : all_bits 1 ≡ (false ∷ []) ∷ (true ∷ []) ∷ []
 unfolding all_bits
 all_of_one = refl

@@ -101,6 +101,10 @@ exit_at_0 = refl
 exit_at_1 : exit_at (to fork (1 ∷ 0 ∷ [])) 1 ≡ 0
 exit_at_1 = refl
 
+-- the entry at 0, and not the place at which 0 stands
+exit_at_of_three : exit_at (to 0 (2 ∷ 0 ∷ 1 ∷ [])) 0 ≡ 2
+exit_at_of_three = refl
+
 -- a row is the callee's pattern, read through the return tuple
 row_of_fork : row (pattern four 0) (to fork (1 ∷ 0 ∷ [])) ≡ 1 ∷ 0 ∷ []
 unfolding pattern
@@ -126,6 +130,13 @@ returns_of_first = refl
 
 exits_of_conjunction : exits four 1 2 ≡ 2
 exits_of_conjunction = refl
+
+-- two exits and one middle vertex
+exits_of_second : exits four 1 0 ≡ 2
+exits_of_second = refl
+
+middles_of_second : length second.connections ≡ 1
+middles_of_second = refl
 
 exits_of_dont_care : exits four 0 dont_care ≡ 1
 exits_of_dont_care = refl
