@@ -1,9 +1,8 @@
-use Rattle.std.specs.Prelude.{ℕ, ◌+◌, ◌-◌, ◌==◌, ◌++◌, nat_le, min, List, length, take, if◌then◌else◌, is_some}
-use Rattle.std.specs.List.{list_any}
+use Rattle.std.specs.Prelude.{ℕ, ◌+◌, ◌-◌, ◌++◌, nat_le, min, List, length, take, if◌then◌else◌, is_some}
 use Rattle.cf_io.specs.Causes.{one_more}
 use Rattle.cf_io.specs.Contents.{content_or_nothing, entries_of}
 use Rattle.cf_io.specs.Opening.{content_of}
-use Rattle.cf_io.specs.Pieces.{piece_length}
+use Rattle.cf_io.specs.Pieces.{is_listed, piece_length}
 use Rattle.cf_io.specs.Putting.{took}
 use Rattle.cf_io.specs.Reading.{count_of}
 use Rattle.cf_io.specs.declared.files.Opened.{Opened}
@@ -32,7 +31,7 @@ reader s = record { bytes = s.bytes.items; piece = s.piece; cut = s.cut; fails =
 -- what a read into a buffer of `room` bytes answers
 abbrev pub read_answer : Reader → ℕ → Got
 read_answer r room =
-    if list_any (λ n. n == r.calls) r.fails then got.Failed
+    if is_listed r.fails r.calls then got.Failed
     else if nat_le (length r.bytes) r.at then got.End
     else got.Got (piece_length r.at r.piece r.cut room (length r.bytes))
 
@@ -55,7 +54,7 @@ writer s = record { written = take s.used s.room.items; room = length s.room.ite
 -- what a write of `count` bytes answers
 abbrev pub write_answer : Writer → ℕ → Put
 write_answer w count =
-    if list_any (λ n. n == w.calls) w.fails then put.Failed
+    if is_listed w.fails w.calls then put.Failed
     else if nat_le w.room (length w.written) then put.Failed
     else put.Took (min (min count w.piece) (w.room - length w.written))
 
@@ -77,7 +76,7 @@ shelf s = record { entries = entries_of s.files.items; piece = s.piece; fails = 
 -- what opening a file of this name answers
 abbrev pub open_answer : Shelf → List ℕ → Opened
 open_answer s name =
-    if list_any (λ n. n == s.calls) s.fails then opened.Failed
+    if is_listed s.fails s.calls then opened.Failed
     else if is_some (content_of s.entries name) then opened.Opened
     else opened.Missing
 

@@ -1,6 +1,6 @@
 ghost use Rattle.std.specs.Prelude.{◌≡◌, ℕ, ◌+◌, ◌<◌, ◌≤◌, List, [], ◌++◌, length, take, drop, if◌then◌else◌};
 ghost use Rattle.cf_io.specs.Causes.{HasCause, one_more};
-ghost use Rattle.cf_io.specs.Pieces.{fails_next, piece_length};
+ghost use Rattle.cf_io.specs.Pieces.{is_listed, piece_length};
 
 /// The calls of a form in memory: those that fail, how many were made, and how many of them failed.
 #[derive(Drop)]
@@ -25,7 +25,7 @@ impl Calls {
 
     /// Counts a call, and a fault where the call is one of those that fail.
     pub(crate) fn fails_now(&mut self) -> bool
-        ensures listed { result ≡ fails_next self.old }
+        ensures listed { result ≡ is_listed self.old.fails.items self.old.made }
         ensures made { self.new.made ≡ one_more self.old.made }
         ensures faults { self.new.faults ≡ (if result then one_more self.old.faults else self.old.faults) }
         ensures cause { HasCause self.old.faults self.new.faults result }

@@ -102,10 +102,9 @@ impl Files for MemFiles {
         ensures answer { result ≡ open_answer (shelf self.old) wanted.now }
         ensures shelf { shelf self.new ≡ after_call (shelf self.old) }
         ensures opened { ⟦<MemFiles as Files>⟧.opened self.new ≡ is_opened result }
-        ensures content { IsTrue (⟦<MemFiles as Files>⟧.tells self.old) → Opens (content_of (⟦<MemFiles as Files>⟧.entries self.old) wanted.now) result (⟦<MemFiles as Files>⟧.left self.new) }
-        ensures name { IsTrue (⟦<MemFiles as Files>⟧.tells self.old) → IsTrue (is_opened result) → ⟦<MemFiles as Files>⟧.name self.new ≡ wanted.now }
+        ensures content { Opens (content_of (⟦<MemFiles as Files>⟧.entries self.old) wanted.now) result (⟦<MemFiles as Files>⟧.left self.new) }
+        ensures name { IsTrue (is_opened result) → ⟦<MemFiles as Files>⟧.name self.new ≡ wanted.now }
         ensures start { (⟦<MemFiles as Files>⟧.given self.new ≡ 0) × (⟦<MemFiles as Files>⟧.ended self.new ≡ false) }
-        ensures told { (⟦<MemFiles as Files>⟧.tells self.new ≡ ⟦<MemFiles as Files>⟧.tells self.old) × (⟦<MemFiles as Files>⟧.entries self.new ≡ ⟦<MemFiles as Files>⟧.entries self.old) }
         ensures missing { HasCause (⟦<MemFiles as Files>⟧.misses self.old) (⟦<MemFiles as Files>⟧.misses self.new) (is_missing result) }
         ensures cause { HasCause (⟦<MemFiles as Files>⟧.faults self.old) (⟦<MemFiles as Files>⟧.faults self.new) (is_open_failed result) }
     {
@@ -136,12 +135,11 @@ impl Files for MemFiles {
         ensures shelf { shelf self.new ≡ after_call (shelf self.old) }
         ensures bound { GotWithin result (length buf.new) }
         ensures given { ⟦<MemFiles as Files>⟧.given self.new ≡ ⟦<MemFiles as Files>⟧.given self.old + count_of result }
-        ensures bytes { IsTrue (⟦<MemFiles as Files>⟧.tells self.old) → ⟦<MemFiles as Files>⟧.left self.old ≡ take (count_of result) buf.new ++ ⟦<MemFiles as Files>⟧.left self.new }
-        ensures end { IsTrue (⟦<MemFiles as Files>⟧.tells self.old) → IsTrue (is_end result) → ⟦<MemFiles as Files>⟧.left self.old ≡ [] }
+        ensures bytes { ⟦<MemFiles as Files>⟧.left self.old ≡ take (count_of result) buf.new ++ ⟦<MemFiles as Files>⟧.left self.new }
+        ensures end { IsTrue (is_end result) → ⟦<MemFiles as Files>⟧.left self.old ≡ [] }
         ensures ended { ⟦<MemFiles as Files>⟧.ended self.new ≡ is_end result }
         ensures opened { ⟦<MemFiles as Files>⟧.opened self.new ≡ true }
         ensures name { ⟦<MemFiles as Files>⟧.name self.new ≡ ⟦<MemFiles as Files>⟧.name self.old }
-        ensures told { (⟦<MemFiles as Files>⟧.tells self.new ≡ ⟦<MemFiles as Files>⟧.tells self.old) × (⟦<MemFiles as Files>⟧.entries self.new ≡ ⟦<MemFiles as Files>⟧.entries self.old) }
         ensures misses { ⟦<MemFiles as Files>⟧.misses self.new ≡ ⟦<MemFiles as Files>⟧.misses self.old }
         ensures cause { HasCause (⟦<MemFiles as Files>⟧.faults self.old) (⟦<MemFiles as Files>⟧.faults self.new) (is_failed result) }
     {

@@ -75,8 +75,7 @@ impl Sink for MemSink {
         ensures answer { result ≡ write_answer (writer self.old) (length piece.now) }
         ensures writer { writer self.new ≡ after_write (writer self.old) piece.now result }
         ensures bound { TookWithin result (length piece.now) }
-        ensures bytes { IsTrue (⟦<MemSink as Sink>⟧.tells self.old) → ⟦<MemSink as Sink>⟧.written self.new ≡ ⟦<MemSink as Sink>⟧.written self.old ++ take (took result) piece.now }
-        ensures told { ⟦<MemSink as Sink>⟧.tells self.new ≡ ⟦<MemSink as Sink>⟧.tells self.old }
+        ensures bytes { ⟦<MemSink as Sink>⟧.written self.new ≡ ⟦<MemSink as Sink>⟧.written self.old ++ take (took result) piece.now }
         ensures cause { HasCause (⟦<MemSink as Sink>⟧.faults self.old) (⟦<MemSink as Sink>⟧.faults self.new) (is_put_failed result) }
     {
         if self.calls.fails_now() {

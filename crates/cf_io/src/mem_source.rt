@@ -65,11 +65,10 @@ impl Source for MemSource {
         ensures reader { reader self.new ≡ after_read (reader self.old) result }
         ensures bound { GotWithin result (length buf.new) }
         ensures taken { ⟦<MemSource as Source>⟧.taken self.new ≡ ⟦<MemSource as Source>⟧.taken self.old + count_of result }
-        ensures bytes { IsTrue (⟦<MemSource as Source>⟧.tells self.old) → ⟦<MemSource as Source>⟧.left self.old ≡ take (count_of result) buf.new ++ ⟦<MemSource as Source>⟧.left self.new }
-        ensures read_bytes { IsTrue (⟦<MemSource as Source>⟧.tells self.old) → ⟦<MemSource as Source>⟧.read_bytes self.new ≡ ⟦<MemSource as Source>⟧.read_bytes self.old ++ take (count_of result) buf.new }
-        ensures end { IsTrue (⟦<MemSource as Source>⟧.tells self.old) → IsTrue (is_end result) → ⟦<MemSource as Source>⟧.left self.old ≡ [] }
+        ensures bytes { ⟦<MemSource as Source>⟧.left self.old ≡ take (count_of result) buf.new ++ ⟦<MemSource as Source>⟧.left self.new }
+        ensures read_bytes { ⟦<MemSource as Source>⟧.read_bytes self.new ≡ ⟦<MemSource as Source>⟧.read_bytes self.old ++ take (count_of result) buf.new }
+        ensures end { IsTrue (is_end result) → ⟦<MemSource as Source>⟧.left self.old ≡ [] }
         ensures ended { ⟦<MemSource as Source>⟧.ended self.new ≡ is_end result }
-        ensures told { ⟦<MemSource as Source>⟧.tells self.new ≡ ⟦<MemSource as Source>⟧.tells self.old }
         ensures cause { HasCause (⟦<MemSource as Source>⟧.faults self.old) (⟦<MemSource as Source>⟧.faults self.new) (is_failed result) }
     {
         self.ended = false;

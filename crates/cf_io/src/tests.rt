@@ -3,7 +3,7 @@ use crate::{
     Source, put_all,
 };
 use std::alloc::Global;
-use std::io::{self, Write};
+use std::io::{self, ErrorKind, Read, Write};
 use std::process::Abort;
 use std::test::Fail;
 
@@ -20,6 +20,26 @@ impl Write for Flushed {
 
     fn flush(&mut self) -> io::Result<()> {
         self.flushes = self.flushes.saturating_add(1);
+        Ok(())
+    }
+}
+
+/// A reader and a writer that fail.
+#[derive(Drop)]
+struct Broken;
+
+impl Read for Broken {
+    fn read(&mut self, _buf: &mut [u8]) -> io::Result<usize> {
+        Err(ErrorKind::Other.into())
+    }
+}
+
+impl Write for Broken {
+    fn write(&mut self, _buf: &[u8]) -> io::Result<usize> {
+        Err(ErrorKind::Other.into())
+    }
+
+    fn flush(&mut self) -> io::Result<()> {
         Ok(())
     }
 }
@@ -165,6 +185,9 @@ fn adapters_of_memory(rt: HostRuntime) -> Result<(), Fail> {
     let mut source = HostSource::new(b"one\ntwo".as_slice());
     let text = listed(alloc, &mut source)?;
     assert_eq!(rt; text.as_slice(), b"one|two|E".as_slice());
+    let text = listed(alloc, &mut HostSource::new(Broken))?;
+    assert_eq!(rt; text.as_slice(), b"F".as_slice());
+    assert!(rt; !put_all(&mut HostSink::new(Broken), b"text"));
     let mut writer = Flushed { flushes: 0 };
     let mut sink = HostSink::new(&mut writer);
     assert!(rt; put_all(&mut sink, b"texts"));
