@@ -1,5 +1,5 @@
 use Rattle.std.proofs.Common.{◌≡◌, ◌^◌, ◌-◌, ℤ, pos, negsuc, true, false, [], ◌∷◌, Some, None, refl}
-use Rattle.cf_model.specs.Terms.{is_true, truth, value1, value2, joined, folded_on, folded, chosen, only, term, terms}
+use Rattle.cf_model.specs.Terms.{is_true, truth, value1, value2, joined, folded_on, folded, chosen, only, term, terms, arity, row_arity}
 use Rattle.cf_model.specs.declared.terms.Word1.TheVariants.{Not, Neg}
 use Rattle.cf_model.specs.declared.terms.Word2.TheVariants.{And, Or, Xor, Plus, Minus, Times, Min, Max, Eq, Lt}
 use Rattle.cf_model.specs.declared.terms.Term.{Term, X, Y, Z, Num, One, Fold, Ite, end_of-Term, more_of-Term}
@@ -139,6 +139,29 @@ clamp_none = refl
 ite_of_not : term (Ite (One Not X) Y Z) (pos 0) (pos 5) (pos 6) ≡ Some (pos 5)
 unfolding term terms Rattle.cf_model.specs.declared.terms.Term.TheBlock.hidden-the_row-Term-1 denote.Hole.Carrier.hidden
 ite_of_not = refl
+
+-- the greatest number that is read, however often
+arity_of_clamp : arity clamp ≡ 2
+unfolding arity row_arity Rattle.cf_model.specs.declared.terms.Term.TheBlock.hidden-the_row-Term-1 denote.Hole.Carrier.hidden
+arity_of_clamp = refl
+
+-- a constant counts as an operation of one number
+arity_of_constant : arity (Num (pos 7)) ≡ 1
+unfolding arity
+arity_of_constant = refl
+
+-- Z alone asks for three
+arity_of_z : arity (Fold Plus (X ∷ Z ∷ [])) ≡ 3
+unfolding arity row_arity Rattle.cf_model.specs.declared.terms.Term.TheBlock.hidden-the_row-Term-1 denote.Hole.Carrier.hidden
+arity_of_z = refl
+
+row_arity_of_none : row_arity end_of-Term ≡ 1
+unfolding row_arity
+row_arity_of_none = refl
+
+row_arity_of_one : row_arity (more_of-Term Y end_of-Term) ≡ 2
+unfolding arity row_arity
+row_arity_of_one = refl
 
 terms_of_two : terms (more_of-Term X (more_of-Term Y end_of-Term)) (pos 1) (pos 2) (pos 3) ≡ Some (pos 1) ∷ Some (pos 2) ∷ []
 unfolding term terms

@@ -1,4 +1,4 @@
-use Rattle.std.specs.Prelude.{◌≡◌, ℕ, zero, suc, ◌<◌, ◌≤◌, List, [], ◌∷◌, ◌++◌, slice_set, map, length, slice_index_or as get_or, flat_map}
+use Rattle.std.specs.Prelude.{◌≡◌, ℕ, zero, suc, ◌<◌, ◌≤◌, List, [], ◌∷◌, ◌++◌, slice_set, map, length, slice_index_or, flat_map}
 use Rattle.cf_model.specs.Renumbering.{width, Grows, IsApart}
 use Rattle.cf_model.specs.Patterns.{Pattern}
 
@@ -28,15 +28,15 @@ no_node = record { a_callee = 0; connections = [] }
 
 -- the outer exit to which the callee's exit i returns
 abbrev pub exit_at : Connection → ℕ → ℕ
-exit_at b i = get_or b.returns i 0
+exit_at b i = slice_index_or b.returns i 0
 
 -- the B-connection of middle vertex j
 abbrev pub connection_at : List Connection → ℕ → Connection
-connection_at bs j = get_or bs j no_connection
+connection_at bs j = slice_index_or bs j no_connection
 
 -- the nodes of a level
 abbrev pub nodes : Levels → ℕ → List Node
-nodes t level = get_or t level []
+nodes t level = slice_index_or t level []
 
 -- how many groupings a level has
 abbrev pub count : Levels → ℕ → ℕ
@@ -44,7 +44,7 @@ count t level = length (nodes t level)
 
 -- the node at a place of a level
 abbrev pub node : Levels → ℕ → ℕ → Node
-node t level i = get_or (nodes t level) i no_node
+node t level i = slice_index_or (nodes t level) i no_node
 
 -- The row of a middle vertex: its callee's pattern, read through its return tuple. `patterns` has the patterns of the
 -- level below.

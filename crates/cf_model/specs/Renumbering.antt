@@ -1,4 +1,4 @@
-use Rattle.std.specs.Prelude.{◌≡◌, ℕ, suc, ◌<◌, ◌≤◌, max, Bool, cond, List, [], ◌∷◌, ◌++◌, map, length, Some}
+use Rattle.std.specs.Prelude.{◌≡◌, ℕ, suc, ◌<◌, ◌≤◌, max, Bool, if◌then◌else◌, List, [], ◌∷◌, ◌++◌, map, length, Some}
 use Rattle.std.specs.List.{slice_get, list_any}
 
 -- How many numbers are given out once the list is read, if the numbers below n were before.
@@ -31,11 +31,11 @@ IsNew xs x = (k : ℕ) → slice_get xs k ≡ Some x → ⊥
 -- the first place of a label, or the length where it has none
 abbrev pub place : {A : Type 0} → (A → A → Bool) → List A → A → ℕ
 place eq [] x = 0
-place eq (y ∷ ys) x = cond (eq y x) 0 (suc (place eq ys x))
+place eq (y ∷ ys) x = if eq y x then 0 else suc (place eq ys x)
 
 -- the labels seen so far, with one more that was read
 abbrev pub note : {A : Type 0} → (A → A → Bool) → List A → A → List A
-note eq seen x = cond (list_any (λ y. eq y x) seen) seen (seen ++ x ∷ [])
+note eq seen x = if list_any (λ y. eq y x) seen then seen else seen ++ x ∷ []
 
 -- each label by its rank of first appearance, where `seen` were seen before in this order
 abbrev pub rgs_on : {A : Type 0} → (A → A → Bool) → List A → List A → List ℕ

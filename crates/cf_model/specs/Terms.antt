@@ -1,4 +1,4 @@
-use Rattle.std.specs.Prelude.{ℤ, pos, ◌+ℤ◌, ◌-ℤ◌, ◌*ℤ◌, neg_ℤ, int_lt, Bool, not, ◌&&◌, ◌||◌, List, [], ◌∷◌, Option, Some, None, if◌then◌else◌}
+use Rattle.std.specs.Prelude.{ℕ, max, ℤ, pos, ◌+ℤ◌, ◌-ℤ◌, ◌*ℤ◌, neg_ℤ, int_lt, Bool, not, ◌&&◌, ◌||◌, List, [], ◌∷◌, Option, Some, None, if◌then◌else◌}
 use Rattle.std.specs.Int.{int_min, int_max}
 use Rattle.std.specs.Ordering.{int_eq}
 use Rattle.cf_model.specs.Values.{fitting, and_then}
@@ -73,3 +73,19 @@ unfoldable mutual
   pub terms : {m : _} → Row_of-Term m → ℤ → ℤ → ℤ → List (Option ℤ)
   terms end_of-Term x y z = []
   terms (more_of-Term t rest) x y z = term t x y z ∷ terms rest x y z
+
+-- How many numbers a term reads: 3 if Z stands in it, else 2 if Y does, else 1.
+unfoldable mutual
+  pub arity : Term → ℕ
+  arity X = 1
+  arity Y = 2
+  arity Z = 3
+  arity (Num n) = 1
+  arity (One' word shape row) = row_arity row
+  arity (Fold' word shape row) = row_arity row
+  arity (Ite' shape_a a shape_b b shape_c c) = max (row_arity a) (max (row_arity b) (row_arity c))
+
+  -- the same for a row of terms
+  pub row_arity : {m : _} → Row_of-Term m → ℕ
+  row_arity end_of-Term = 1
+  row_arity (more_of-Term t rest) = max (arity t) (row_arity rest)
