@@ -131,8 +131,8 @@ pub pattern_own : (t : Levels) → IsGood t → (l i : ℕ) → i < count t l �
 pattern_own t g l i h = rgs_of_grown (pattern t l i) ((level_holds t g l).grows i h)
 
 -- each exit is reached, by an assignment's number
-pub exit_reached : (t : Levels) → IsGood t → (l i e : ℕ) → i < count t l → e < exits t l i → (n : ℕ) × (n < points l) × (slice_get (pattern t l i) n ≡ Some e)
-exit_reached t g l i e h he =
+pub exit_reached : (t : Levels) → IsGood t → (l i : ℕ) → i < count t l → (e : ℕ) → e < exits t l i → (n : ℕ) × (n < points l) × (slice_get (pattern t l i) n ≡ Some e)
+exit_reached t g l i h e he =
     let u = level_holds t g l in
     let r = reached_at 0 (pattern t l i) (u.grows i h) e (omega arith) (omega (arith, he, u.reaches i h)) in
     (r.0, omega (arith, r.1, u.points i h), slice_get-get_or (pattern t l i) r.0 0 r.1 ∙ ap Some r.2)

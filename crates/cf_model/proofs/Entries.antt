@@ -34,8 +34,8 @@ entry_below t g l i u hi hu =
     let b = level_holds t g l in
     Under-get_or (exits t l i) (pattern t l i) u (Under-width 0 (exits t l i) (pattern t l i) (omega (arith, b.reaches i hi))) (omega (arith, hu, b.points i hi))
 
-pub entry_is_exit : (t : Levels) → IsGood t → (l i n e : ℕ) → i < count t l → slice_get (pattern t l i) n ≡ Some e → e < exits t l i
-entry_is_exit t g l i n e hi h =
+pub entry_is_exit : (t : Levels) → IsGood t → (l i : ℕ) → i < count t l → (n e : ℕ) → slice_get (pattern t l i) n ≡ Some e → e < exits t l i
+entry_is_exit t g l i hi n e h =
     let inside : n < points l = omega (arith, slice_get_within (pattern t l i) n e h, (level_holds t g l).points i hi) in
     subst (λ (k : ℕ). k < exits t l i) (get_or_from_slice_get (pattern t l i) n e 0 h) (entry_below t g l i n hi inside)
 

@@ -1,4 +1,4 @@
-use Rattle.std.proofs.Common.{◌≡◌, ℕ, suc, ◌<◌, ◌+◌, ◌*◌, Bool, true, false, [], ◌∷◌, get_or, refl, sym, ◌∙◌, ap, arith, inl, inr}
+use Rattle.std.proofs.Common.{◌≡◌, ℕ, List, map, ◌≤◌, suc, ◌<◌, ◌+◌, ◌*◌, Bool, true, false, [], ◌∷◌, get_or, refl, sym, ◌∙◌, ap, arith, inl, inr}
 use Rattle.std.specs.Prelude.{◌==◌, ◌&&◌, nat_lt, filter, sum_by, cond, All, if◌then◌else◌}
 use Rattle.std.specs.Bool.{Decides}
 use Rattle.std.proofs.lemmas.Bool.{false≢true, cases_order}
@@ -6,7 +6,8 @@ use Rattle.std.proofs.lemmas.Bool.Decides.{Decides-and, Decides-or, Decides-eqb,
 use Rattle.std.proofs.lemmas.List.Elements.{All-cons, All-head, All-tail}
 use Rattle.std.proofs.lemmas.List.Kept.{AllPairs-cons}
 use Rattle.std.proofs.lemmas.List.Sums.{sum_by-cons}
-use Rattle.cf_model.specs.PairSums.{PairTerm, PairSum, same_pair, pair_before, IsPairBefore, IsPairSum, coefficient, single, with_pair, added, scaled}
+use Rattle.std.proofs.lemmas.Nat.{mul-le}
+use Rattle.cf_model.specs.PairSums.{PairTerm, PairSum, same_pair, pair_before, IsPairBefore, IsPairSum, coefficient, total, single, with_pair, added, scaled, relabelled_pair, relabelled}
 
 pub pair_decides : (p q : ℕ × ℕ) → Decides (same_pair p q) (p ≡ q)
 pair_decides p q =
@@ -139,3 +140,107 @@ pair_sum-added a (t ∷ b) s h = pair_sum-added (with_pair t a) b (pair_sum-with
 
 pub pair_sum-single : (p q : ℕ) → IsPairSum (single p q)
 pair_sum-single p q = pair_sum-cons ((p, q), 1) [] (omega arith) (λ k d l. absurd (omega (arith, l))) pair_sum-nil
+
+total-cons : (t : PairTerm) (sum : PairSum) → total (t ∷ sum) ≡ t.1 + total sum
+total-cons t sum = sum_by-cons (λ (u : PairTerm). u.1) t sum
+
+-- the totals of the sums that are made
+pub total-with_pair : (t : PairTerm) (sum : PairSum) → total (with_pair t sum) ≡ t.1 + total sum
+total-with_pair t [] = total-cons t []
+total-with_pair t (u ∷ sum) = by (total-with_pair t sum) (same_pair t.0 u.0) (pair_before t.0 u.0)
+  where
+    by : total (with_pair t sum) ≡ t.1 + total sum → (b c : Bool) → total (if b then (u.0, t.1 + u.1) ∷ sum else if c then t ∷ u ∷ sum else u ∷ with_pair t sum) ≡ t.1 + total (u ∷ sum)
+    by rest true c = total-cons (u.0, t.1 + u.1) sum ∙ omega (arith, total-cons u sum)
+    by rest false true = total-cons t (u ∷ sum)
+    by rest false false = total-cons u (with_pair t sum) ∙ omega (arith, rest, total-cons u sum)
+
+pub total-added : (a b : PairSum) → total (added a b) ≡ total a + total b
+total-added a [] = omega arith
+total-added a (t ∷ b) = total-added (with_pair t a) b ∙ omega (arith, total-with_pair t a, total-cons t b)
+
+pub total-scaled : (k : ℕ) (sum : PairSum) → total (scaled k sum) ≡ k * total sum
+total-scaled k [] = omega arith
+total-scaled k (t ∷ sum) =
+    let i = total-scaled k sum in
+    let e : k * t.1 + total (scaled k sum) ≡ k * (t.1 + total sum) = rw i omega arith in
+    total-cons (t.0, k * t.1) (scaled k sum) ∙ e ∙ ap (λ (n : ℕ). k * n) (sym (total-cons t sum))
+
+total-map : (ps qs : List ℕ) (sum : PairSum) → total (map (relabelled_pair ps qs) sum) ≡ total sum
+total-map ps qs [] = refl
+total-map ps qs (t ∷ sum) = total-cons (relabelled_pair ps qs t) (map (relabelled_pair ps qs) sum) ∙ omega (arith, total-map ps qs sum, total-cons t sum)
+
+pub total-relabelled : (ps qs : List ℕ) (sum : PairSum) → total (relabelled ps qs sum) ≡ total sum
+total-relabelled ps qs sum = total-added [] (map (relabelled_pair ps qs) sum) ∙ omega (arith, total-map ps qs sum)
+
+-- a multiple of a sum is a sum
+after-scaled : (p : ℕ × ℕ) (k : ℕ) (sum : PairSum) → AllAfter p sum → AllAfter p (scaled k sum)
+after-scaled p k [] a = λ i d l. absurd (omega (arith, l))
+after-scaled p k (t ∷ sum) a = after-cons p (t.0, k * t.1) (scaled k sum) (All-head (λ (u : PairTerm). IsPairBefore p u.0) t sum a) (after-scaled p k sum (All-tail (λ (u : PairTerm). IsPairBefore p u.0) t sum a))
+
+pub pair_sum-scaled : (k : ℕ) (sum : PairSum) → 1 ≤ k → IsPairSum sum → IsPairSum (scaled k sum)
+pair_sum-scaled k [] h s = pair_sum-nil
+pair_sum-scaled k (t ∷ sum) h s =
+    let below = pair_sum-tail t sum s in
+    let more : 1 * 1 ≤ k * t.1 = mul-le 1 1 k t.1 h (omega (arith, below.0)) in
+    pair_sum-cons (t.0, k * t.1) (scaled k sum) (omega (arith, more)) (after-scaled t.0 k sum below.1) (pair_sum-scaled k sum h below.2)
+
+-- a sum that is relabelled is a sum
+positive-map : (ps qs : List ℕ) (sum : PairSum) → All (λ t. 0 < t.1) sum → All (λ t. 0 < t.1) (map (relabelled_pair ps qs) sum)
+positive-map ps qs [] h = λ i d l. absurd (omega (arith, l))
+positive-map ps qs (t ∷ sum) h =
+    All-cons (λ (u : PairTerm). 0 < u.1) (relabelled_pair ps qs t) (map (relabelled_pair ps qs) sum) (All-head (λ (u : PairTerm). 0 < u.1) t sum h)
+    (positive-map ps qs sum (All-tail (λ (u : PairTerm). 0 < u.1) t sum h))
+
+pub pair_sum-relabelled : (ps qs : List ℕ) (sum : PairSum) → IsPairSum sum → IsPairSum (relabelled ps qs sum)
+pair_sum-relabelled ps qs sum s = pair_sum-added [] (map (relabelled_pair ps qs) sum) pair_sum-nil (positive-map ps qs sum s.positive)
+
+apart_from_before : (p q : ℕ × ℕ) → IsPairBefore p q → same_pair q p ≡ false
+apart_from_before p q h = by (same_pair q p) refl
+  where
+    by : (b : Bool) → same_pair q p ≡ b → b ≡ false
+    by true e = absurd (let s : q ≡ p = (pair_decides q p).0 e in elim h [ inl l ↦ omega (arith, l, ap (λ (r : ℕ × ℕ). r.0) s) | inr l ↦ omega (arith, l.1, ap (λ (r : ℕ × ℕ). r.1) s) ])
+    by false e = refl
+
+-- a pair before all others has the coefficient 0
+none_after : (p : ℕ × ℕ) (sum : PairSum) → AllAfter p sum → coefficient sum p ≡ 0
+none_after p [] a = refl
+none_after p (t ∷ sum) a =
+    let e : share t p ≡ 0 = ap (λ (b : Bool). if b then t.1 else 0) (apart_from_before p t.0 (All-head (λ (u : PairTerm). IsPairBefore p u.0) t sum a)) in
+    coefficient-cons t sum p ∙ omega (arith, e, none_after p sum (All-tail (λ (u : PairTerm). IsPairBefore p u.0) t sum a))
+
+own_share : (t : PairTerm) → share t t.0 ≡ t.1
+own_share t = ap (λ (b : Bool). if b then t.1 else 0) ((pair_decides t.0 t.0).1 refl)
+
+-- the first pair of one sum stands in another with the same coefficients, and not behind its first
+not_before : (t u : PairTerm) (a b : PairSum) → IsPairSum (t ∷ a) → IsPairSum (u ∷ b) → coefficient (t ∷ a) t.0 ≡ coefficient (u ∷ b) t.0 → IsPairBefore t.0 u.0 → ⊥
+not_before t u a b s r e h =
+    let x = pair_sum-tail t a s in
+    let y = pair_sum-tail u b r in
+    let after : AllAfter t.0 (u ∷ b) = after-cons t.0 u b h (λ k d i. before_before t.0 u.0 (get_or b k d).0 h (y.1 k d i)) in
+    omega (arith, e, none_after t.0 (u ∷ b) after, coefficient-cons t a t.0, own_share t, x.0)
+
+-- sums are determined by their coefficients
+pub pair_sum-unique : (a b : PairSum) → IsPairSum a → IsPairSum b → ((p : ℕ × ℕ) → coefficient a p ≡ coefficient b p) → a ≡ b
+pair_sum-unique [] [] s r e = refl
+pair_sum-unique [] (u ∷ b) s r e = absurd (omega (arith, e u.0, coefficient-cons u b u.0, own_share u, (pair_sum-tail u b r).0))
+pair_sum-unique (t ∷ a) [] s r e = absurd (omega (arith, e t.0, coefficient-cons t a t.0, own_share t, (pair_sum-tail t a s).0))
+pair_sum-unique (t ∷ a) (u ∷ b) s r e = by (same_pair t.0 u.0) refl (pair_before t.0 u.0) refl (pair_sum-unique a b x.2 y.2)
+  where
+    x : (0 < t.1) × AllAfter t.0 a × IsPairSum a
+    x = pair_sum-tail t a s
+
+    y : (0 < u.1) × AllAfter u.0 b × IsPairSum b
+    y = pair_sum-tail u b r
+
+    by : (c : Bool) → same_pair t.0 u.0 ≡ c → (d : Bool) → pair_before t.0 u.0 ≡ d → (((p : ℕ × ℕ) → coefficient a p ≡ coefficient b p) → a ≡ b) → t ∷ a ≡ u ∷ b
+    by true f d g rest =
+        let pair : t.0 ≡ u.0 = (pair_decides t.0 u.0).0 f in
+        let at_t : share t t.0 + coefficient a t.0 ≡ share u t.0 + coefficient b t.0 = sym (coefficient-cons t a t.0) ∙ e t.0 ∙ coefficient-cons u b t.0 in
+        let shared : share u t.0 ≡ u.1 = ap (share u) pair ∙ own_share u in
+        let late : coefficient b t.0 ≡ 0 = ap (coefficient b) pair ∙ none_after u.0 b y.1 in
+        let number : t.1 ≡ u.1 = omega (arith, at_t, own_share t, none_after t.0 a x.1, shared, late) in
+        let same : t ≡ u = ap (λ (p : ℕ × ℕ). (p, t.1)) pair ∙ ap (λ (n : ℕ). (u.0, n)) number in
+        let tail : a ≡ b = rest (λ p. omega (arith, e p, coefficient-cons t a p, coefficient-cons u b p, ap (λ (v : PairTerm). share v p) same)) in
+        ap (λ (v : PairTerm). v ∷ a) same ∙ ap (λ (v : PairSum). u ∷ v) tail
+    by false f true g rest = absurd (not_before t u a b s r (e t.0) ((before_decides t.0 u.0).0 g))
+    by false f false g rest = absurd (not_before u t b a r s (sym (e u.0)) (pairs_ordered t.0 u.0 f g))

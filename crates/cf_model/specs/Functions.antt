@@ -14,4 +14,7 @@ pub record IsFunction (t : Levels) (level i : ℕ) (values : List ℤ) : Type 0 
 
 -- The flat function that it means: at each assignment the value of the exit that the grouping has there.
 abbrev pub function_of : Levels → ℕ → ℕ → List ℤ → FlatFunction
-function_of t level i values = record { level = level; values = map (λ exit. slice_index_or values exit (pos 0)) (pattern t level i) }
+function_of t level i values = record {
+  level = level;
+  values = map (λ exit. slice_index_or values exit (pos 0)) (pattern t level i);
+}

@@ -42,7 +42,10 @@ single p q = ((p, q), 1) ∷ []
 -- the sum with one more pair and its coefficient, at its place
 abbrev pub with_pair : PairTerm → PairSum → PairSum
 with_pair t [] = t ∷ []
-with_pair t (u ∷ sum) = if same_pair t.0 u.0 then (u.0, t.1 + u.1) ∷ sum else if pair_before t.0 u.0 then t ∷ u ∷ sum else u ∷ with_pair t sum
+with_pair t (u ∷ sum) =
+    if same_pair t.0 u.0 then (u.0, t.1 + u.1) ∷ sum
+    else if pair_before t.0 u.0 then t ∷ u ∷ sum
+    else u ∷ with_pair t sum
 
 -- the sum of two sums: coefficients of equal pairs add
 abbrev pub added : PairSum → PairSum → PairSum

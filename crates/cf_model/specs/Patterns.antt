@@ -52,7 +52,9 @@ return_lists level p = map (distinct nat_eq) (distinct_rows level p)
 -- proto-CFLOBDD within p's. The same pattern can be listed more than once.
 unfoldable pub sub : ℕ → List ℕ → List Pattern
 sub zero p = record { level = zero; ranks = p } ∷ []
-sub (suc level) p = record { level = suc level; ranks = p } ∷ sub level (a_pattern level p) ++ flat_map (sub level) (b_patterns level p)
+sub (suc level) p =
+    record { level = suc level; ranks = p }
+    ∷ sub level (a_pattern level p) ++ flat_map (sub level) (b_patterns level p)
 
 -- all that the patterns are made of
 abbrev pub subs : List Pattern → List Pattern

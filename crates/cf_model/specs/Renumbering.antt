@@ -1,4 +1,4 @@
-use Rattle.std.specs.Prelude.{◌≡◌, ℕ, suc, ◌<◌, ◌≤◌, max, Bool, if◌then◌else◌, List, [], ◌∷◌, ◌++◌, map, length, Some}
+use Rattle.std.specs.Prelude.{◌≡◌, ℕ, suc, ◌<◌, ◌≤◌, ◌↔◌, max, Bool, if◌then◌else◌, List, [], ◌∷◌, ◌++◌, map, length, Some}
 use Rattle.std.specs.List.{slice_get, list_any}
 
 -- How many numbers are given out once the list is read, if the numbers below n were before.
@@ -69,4 +69,4 @@ pub record IsCanon {A : Type 0} (all : List A) (ranks : List ℕ) (labels : List
 
 -- Two lists are equal at the same pairs of places.
 abbrev pub SamePlaces : {A B : Type 0} → List A → List B → Type 0
-SamePlaces xs ys = (i j : ℕ) → i < length xs → j < length xs → (slice_get xs i ≡ slice_get xs j → slice_get ys i ≡ slice_get ys j) × (slice_get ys i ≡ slice_get ys j → slice_get xs i ≡ slice_get xs j)
+SamePlaces xs ys = (i j : ℕ) → i < length xs → j < length xs → (slice_get xs i ≡ slice_get xs j) ↔ (slice_get ys i ≡ slice_get ys j)
