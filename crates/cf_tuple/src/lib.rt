@@ -15,7 +15,7 @@ use std::marker::Model;
 pub type NoMemory = AllocError;
 
 /// The id of a list in a book.
-#[derive(Clone, Copy, Debug, PartialEq, Eq)]
+#[derive(Clone, Copy, Debug, PartialEq, Eq, Hash)]
 pub struct Tid {
     pub at: u64,
 }
