@@ -398,3 +398,6 @@ pub fn same_pattern(table: &Table, g: Gid, h: Gid) -> bool
     table.law();
     g.at == h.at
 }
+
+#[cfg(test)]
+mod tests;
