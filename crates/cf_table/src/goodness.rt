@@ -54,7 +54,8 @@ fn numbered_on(before: u128, list: &[u64]) -> Option<u128>
 /// How many exits the return tuples number. None where they don't number by first reach.
 fn numbered_exits(table: &Table, bs: &[BConn]) -> Option<u128>
     requires { All (λ b. OwnsTuple table.now b.ret) bs.now }
-    ensures { MatchOption result (Grows 0 (returns_of table.now.tuples bs.now) → ⊥) (IsNumberedOn 0 (returns_of table.now.tuples bs.now)) }
+    ensures { let returns = returns_of table.now.tuples bs.now in
+        MatchOption result (Grows 0 returns → ⊥) (IsNumberedOn 0 returns) }
 {
     let mut next = 0;
     for b in bs {
@@ -66,7 +67,8 @@ fn numbered_exits(table: &Table, bs: &[BConn]) -> Option<u128>
 /// How many exits a good node has. A number that no `u64` holds takes more memory than there is.
 pub(crate) fn exits_of(table: &Table, bs: &[BConn]) -> Result<u64, NoMemory>
     requires { All (λ b. OwnsTuple table.now b.ret) bs.now }
-    ensures { IfOk result (λ n. n ≡ width 0 (all_returns (map (connection_of table.now.tuples) bs.now))) }
+    ensures { let connections = map (connection_of table.now.tuples) bs.now in
+        IfOk result (λ n. n ≡ width 0 (all_returns connections)) }
 {
     match numbered_exits(table, bs) {
         Some(exits) if exits <= u64::MAX as u128 => Ok(exits as u64),

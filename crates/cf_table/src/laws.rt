@@ -1,14 +1,23 @@
 //! What holds of the groupings of a table, each theorem on the contract of a function that does
 //! nothing.
 
-ghost use Rattle.std.specs.Prelude.{◌≡◌, ◌<◌, ◌≤◌, ◌-◌, ◌↔◌, ℕ, All, Some, length, map, nat_eq, slice_get};
+ghost use Rattle.std.specs.Prelude.{◌≡◌, [], ◌∷◌, ◌<◌, ◌≤◌, ◌-◌, ◌↔◌, ℕ, All, Some, length, map, nat_eq, slice_get};
 ghost use Rattle.cf_model.specs.Renumbering.{rgs, IsCanon};
 ghost use Rattle.cf_model.specs.FlatFunctions.{points};
 ghost use Rattle.cf_model.specs.Patterns.{a_pattern, b_patterns, distinct_rows, return_lists, rows, sub};
-ghost use Rattle.cf_model.specs.Diagrams.{connection_at, pattern, row, HasPatterns};
+ghost use Rattle.cf_model.specs.Diagrams.{connection_at, count, pattern, row, HasPatterns};
 ghost use Rattle.cf_table.specs.Groupings.{Owns, exits_of, node_of, pattern_of};
 
-use super::{Gid, Table};
+use super::{DONT_CARE, FORK, Gid, Table};
+
+/// Level 0 has `DONT_CARE`, with exit 0 for both bits, and `FORK`, with the bit as exit.
+pub fn base_groupings(table: &Table)
+    ensures count { count table.now.levels 0 ≡ 2 }
+    ensures dont_care { pattern_of table.now DONT_CARE ≡ 0 ∷ 0 ∷ [] }
+    ensures fork { pattern_of table.now FORK ≡ 0 ∷ 1 ∷ [] }
+{
+    table.law();
+}
 
 /// A pattern has a number for each assignment and is its own renumbering, its numbers are below
 /// the number of exits, and each exit is reached.
@@ -32,7 +41,8 @@ pub fn rows_are_numbered(table: &Table, g: Gid)
         IsCanon (rows l (pattern_of table.now g))
         (pattern table.now.levels l n.a_callee)
         (map (row (pattern table.now.levels l)) n.connections) }
-    ensures middles { length (node_of table.now g).connections ≡ length (distinct_rows (g.level - 1) (pattern_of table.now g)) }
+    ensures middles { let different = distinct_rows (g.level - 1) (pattern_of table.now g) in
+        length (node_of table.now g).connections ≡ length different }
 {
     table.law();
 }

@@ -96,7 +96,9 @@ fn is_grouping(kept: &Grouping, a: u64, bs: &[BConn]) -> bool
 }
 
 fn find_grouping(groupings: &[Grouping], a: u64, bs: &[BConn]) -> Option<u64>
-    ensures { MatchOption result (IsNew (map ids groupings.now) (a, bs.now)) (λ i. slice_get (map ids groupings.now) i ≡ Some (a, bs.now)) }
+    ensures { MatchOption result
+        (IsNew (map ids groupings.now) (a, bs.now))
+        (λ i. slice_get (map ids groupings.now) i ≡ Some (a, bs.now)) }
 {
     for i in 0..groupings.len() {
         let kept = &groupings[i];
@@ -187,7 +189,8 @@ impl Table {
         self.book.get(t)
     }
 
-    fn owns_tuple(&self, t: Tid) -> bool
+    /// Whether the table has the return tuple.
+    pub fn owns_tuple(&self, t: Tid) -> bool
         ensures { IsTrue result ↔ OwnsTuple self.now t }
     {
         self.book.owns(t)
@@ -196,7 +199,10 @@ impl Table {
     fn find(&self, level: u8, a: u64, bs: &[BConn]) -> Option<u64>
         requires level { level < 8 }
         requires connections { All (IsConnectionAt self.now.tuples level) bs.now }
-        ensures { MatchOption result (LacksNode self.now.levels level (node_with self.now.tuples a bs.now)) (λ i. (i < count self.now.levels level) × (node self.now.levels level i ≡ node_with self.now.tuples a bs.now)) }
+        ensures { let n = node_with self.now.tuples a bs.now in
+            MatchOption result
+            (LacksNode self.now.levels level n)
+            (λ i. (i < count self.now.levels level) × (node self.now.levels level i ≡ n)) }
     {
         find_grouping(self.levels[level as usize].as_slice(), a, bs)
     }
@@ -213,7 +219,8 @@ impl Table {
     pub fn intern(&mut self, a: Gid, bs: &[BConn]) -> Result<Gid, NoMemory>
         requires { IsInternable self.old a bs.now }
         ensures level { IfOk result (λ g. g.level ≡ a.level + 1) }
-        ensures interned { IfOk result (λ g. IsInterned self.old.levels self.new.levels g.level (node_with self.old.tuples a.at bs.now) g.at) }
+        ensures interned { let n = node_with self.old.tuples a.at bs.now in
+            IfOk result (λ g. IsInterned self.old.levels self.new.levels g.level n g.at) }
         ensures good { IsGood self.new.levels }
         ensures kept { Extends self.old.levels self.new.levels }
         ensures patterns { KeepsPatterns self.old.levels self.new.levels }
@@ -290,7 +297,7 @@ impl Table {
         requires owned { Owns self.now g }
         requires level { 1 ≤ g.level }
         ensures shown { map (connection_of self.now.tuples) result.now ≡ (node_of self.now g).connections }
-        ensures kept { All (IsConnectionAt self.now.tuples g.level) result.now }
+        ensures placed { All (IsConnectionAt self.now.tuples g.level) result.now }
     {
         self.kept(g).b_connections.as_slice()
     }

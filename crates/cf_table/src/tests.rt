@@ -12,7 +12,12 @@ fn base_exit(g: Gid, bit: usize) -> usize {
 }
 
 /// The exits of a grouping of level 1 at its four assignments.
-fn pattern<L: Ledger>(rt: &impl Abort, table: &Table, g: Gid, steps: &mut Steps<L>) -> [Option<u64>; 4] {
+fn pattern<L: Ledger>(
+    rt: &impl Abort,
+    table: &Table,
+    g: Gid,
+    steps: &mut Steps<L>,
+) -> [Option<u64>; 4] {
     assert!(rt; g.level == 1);
     assert!(rt; table.owns(g));
     let mut exits = [None; 4];
@@ -42,8 +47,23 @@ fn four_groupings_in<L: Ledger>(rt: &impl Abort, alloc: Global, blank: Blank) ->
     let one = table.intern_tuple(&[1])?;
     let up = table.intern_tuple(&[0, 1])?;
     let down = table.intern_tuple(&[1, 0])?;
-    let (stays, turns) = (BConn { to: FORK, ret: up }, BConn { to: FORK, ret: down });
-    let (low, high) = (BConn { to: DONT_CARE, ret: zero }, BConn { to: DONT_CARE, ret: one });
+    let (stays, turns) = (
+        BConn { to: FORK, ret: up },
+        BConn {
+            to: FORK,
+            ret: down,
+        },
+    );
+    let (low, high) = (
+        BConn {
+            to: DONT_CARE,
+            ret: zero,
+        },
+        BConn {
+            to: DONT_CARE,
+            ret: one,
+        },
+    );
     let second = [stays];
     let first = [low, high];
     let both = [low, stays];
@@ -57,7 +77,13 @@ fn four_groupings_in<L: Ledger>(rt: &impl Abort, alloc: Global, blank: Blank) ->
     for _ in 0..2 {
         for (at, (a, bs, exits)) in rows.iter().enumerate() {
             let g = interned(rt, &mut table, *a, bs)?;
-            assert_eq!(rt; g, Gid { level: 1, at: at as u64 });
+            assert_eq!(rt;
+                g,
+                Gid {
+                    level: 1,
+                    at: at as u64
+                }
+            );
             assert_eq!(rt; pattern(rt, &table, g, &mut steps), exits.map(Some));
         }
     }
