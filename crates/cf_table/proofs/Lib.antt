@@ -1,0 +1,8 @@
+pub mod Told
+pub mod Shown
+pub mod Differ
+pub mod Numbered
+pub mod ConnectionTests
+pub mod Above
+pub mod Internable
+pub mod First

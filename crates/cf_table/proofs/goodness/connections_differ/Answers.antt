@@ -1,0 +1,22 @@
+use Rattle.std.proofs.Common.{◌∙◌, List, get_or, refl, sym, subst, arith}
+use Rattle.std.proofs.lemmas.Bool.{false≢true}
+use Rattle.std.proofs.lemmas.List.{take_all}
+use Rattle.std.proofs.lemmas.Option.{slice_get-get_or}
+use Rattle.cf_model.specs.Renumbering.{AllDiffer}
+use Rattle.cf_table.proofs.ConnectionTests.{same, same-Decides}
+use Rattle.cf_table.proofs.Told.{blank}
+use Rattle.cf_table.proofs.Differ.{repeated, differ_more}
+use Rattle.cf_table.proofs.goodness.connections_differ.Goals as goal
+
+pub returns-then-contains : goal.returns-then-contains
+returns-then-contains c =
+    let all = c.args.bs.now in
+    (λ h. absurd (false≢true h), λ d. absurd (repeated same same-Decides all c.loop-i.i (get_or all c.loop-i.i blank) (slice_get-get_or all c.loop-i.i blank c.loop-i-test.true) (sym c.contains.ensures.value ∙ c.if-contains.true) d))
+
+pub loop-i-preserved : goal.loop-i-preserved
+loop-i-preserved c =
+    let all = c.args.bs.now in
+    differ_more same same-Decides all c.loop-i.i blank c.loop-i-test.true (sym c.contains.ensures.value ∙ c.if-contains.false) c.loop-i.invariant
+
+pub returns : goal.returns
+returns c = (λ h. subst (λ (xs : List _). AllDiffer xs) (take_all c.loop-i.i c.args.bs.now (omega (arith, c.loop-i-test.false))) c.loop-i.invariant, λ h. refl)

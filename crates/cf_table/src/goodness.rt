@@ -1,0 +1,115 @@
+//! The test of a node that is to be interned.
+
+ghost use Rattle.std.specs.Prelude.{◌≡◌, ◌≤◌, ◌^◌, ◌↔◌, All, IsTrue, IfOk, MatchOption, map};
+ghost use Rattle.cf_model.specs.Renumbering.{width, Grows, AllDiffer};
+ghost use Rattle.cf_model.specs.Diagrams.{all_returns};
+ghost use Rattle.cf_table.specs.Groupings.{Owns, OwnsTuple, connection_of, IsInternable};
+ghost use Rattle.cf_table.specs.Goodness.{returns_of, IsNumberedOn, IsGoodOver};
+
+use super::{BConn, Gid, Table};
+use cf_tuple::NoMemory;
+use std::alloc::AllocError;
+
+/// Whether no entry stands in the list twice.
+fn entries_differ(list: &[u64]) -> bool
+    ensures { IsTrue result ↔ AllDiffer list.now }
+{
+    for i in 0..list.len() {
+        if list[..i].contains(&list[i]) {
+            return false;
+        }
+    }
+    true
+}
+
+/// Whether no B-connection stands in the list twice.
+fn connections_differ(bs: &[BConn]) -> bool
+    ensures { IsTrue result ↔ AllDiffer bs.now }
+{
+    for i in 0..bs.len() {
+        if bs[..i].contains(&bs[i]) {
+            return false;
+        }
+    }
+    true
+}
+
+/// How many numbers are given out once the list is read, where `before` were before that. None where
+/// the list doesn't number by first reach.
+fn numbered_on(before: u128, list: &[u64]) -> Option<u128>
+    requires { before ≤ 2 ^ 64 }
+    ensures { MatchOption result (Grows before list.now → ⊥) (IsNumberedOn before list.now) }
+{
+    let mut next = before;
+    for &exit in list {
+        let exit = exit as u128;
+        if exit > next {
+            return None;
+        }
+        next = next.max(exit + 1);
+    }
+    Some(next)
+}
+
+/// How many exits the return tuples number. None where they don't number by first reach.
+fn numbered_exits(table: &Table, bs: &[BConn]) -> Option<u128>
+    requires { All (λ b. OwnsTuple table.now b.ret) bs.now }
+    ensures { let returns = returns_of table.now.tuples bs.now in
+        MatchOption result (Grows 0 returns → ⊥) (IsNumberedOn 0 returns) }
+{
+    let mut next = 0;
+    for b in bs {
+        next = numbered_on(next, table.tuple(b.ret))?;
+    }
+    Some(next)
+}
+
+/// How many exits a good node has. A number that no `u64` holds takes more memory than there is.
+pub(crate) fn exits_of(table: &Table, bs: &[BConn]) -> Result<u64, NoMemory>
+    requires { All (λ b. OwnsTuple table.now b.ret) bs.now }
+    ensures { let connections = map (connection_of table.now.tuples) bs.now in
+        IfOk result (λ n. n ≡ width 0 (all_returns connections)) }
+{
+    match numbered_exits(table, bs) {
+        Some(exits) if exits <= u64::MAX as u128 => Ok(exits as u64),
+        _ => Err(AllocError),
+    }
+}
+
+/// Whether a B-connection is a good one of a node above the level.
+fn is_good_connection(table: &Table, level: u8, b: BConn) -> bool
+    ensures { IsTrue result ↔ IsGoodOver table.now level b }
+{
+    if b.to.level != level || !table.owns(b.to) || !table.owns_tuple(b.ret) {
+        return false;
+    }
+    let returns = table.tuple(b.ret);
+    returns.len() as u64 == table.exits(b.to) && entries_differ(returns)
+}
+
+fn are_good_connections(table: &Table, level: u8, bs: &[BConn]) -> bool
+    ensures { IsTrue result ↔ All (IsGoodOver table.now level) bs.now }
+{
+    for &b in bs {
+        if !is_good_connection(table, level, b) {
+            return false;
+        }
+    }
+    true
+}
+
+pub(crate) fn is_internable(table: &Table, a: Gid, bs: &[BConn]) -> bool
+    ensures { IsTrue result ↔ IsInternable table.now a bs.now }
+{
+    if a.level > 6 || !table.owns(a) {
+        return false;
+    }
+    if bs.len() as u64 != table.exits(a) {
+        return false;
+    }
+    if !are_good_connections(table, a.level, bs) {
+        return false;
+    }
+    table.law();
+    connections_differ(bs) && numbered_exits(table, bs).is_some()
+}
