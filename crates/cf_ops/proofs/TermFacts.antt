@@ -8,7 +8,7 @@ use Rattle.cf_model.specs.declared.terms.Word1.{Word1}
 use Rattle.cf_model.specs.declared.terms.Word2.{Word2}
 use Rattle.cf_model.specs.declared.terms.Term.{Term, X, Y, Z, Num, One, Fold, Ite, Fold'}
 use Rattle.cf_model.proofs.TermLaws.{term-X, term-Y, term-Z, term-Num, term-One, term-Fold, term-Ite}
-use Rattle.cf_ops.specs.Arity.{leaves, leaves_of, is_y, is_z, asked}
+use Rattle.cf_ops.specs.Arity.{leaves, leaves_of, is_y, is_z, asked, arity_of}
 use Rattle.cf_ops.specs.Operations.{of_one, of_two, of_three}
 
 -- the trees of one operation
@@ -90,3 +90,19 @@ asked-append xs ys =
     ∙ more_asked (list_any is_z xs) (list_any is_z ys) (list_any is_y xs) (list_any is_y ys)
 
 pub ruleset arity_laws = (leaves-X, leaves-Y, leaves-Z, leaves-Num, leaves-One)
+
+-- how many numbers the trees of one operation ask for
+pub arity-of_one : (word : Word1) → arity_of (of_one word) ≡ 1
+arity-of_one word = ap asked (leaves-One word X ∙ leaves-X)
+
+pub arity-of_two : (word : Word2) → arity_of (of_two word) ≡ 2
+arity-of_two word =
+    ap asked (leaves-Fold word (X ∷ Y ∷ [])) ∙ ap (λ (ts : List Term). asked (ts ++ (leaves Y ++ []))) leaves-X ∙ ap (λ (ts : List Term). asked (X ∷ (ts ++ []))) leaves-Y
+
+pub arity-of_three : arity_of of_three ≡ 3
+arity-of_three =
+    ap asked (leaves-Ite X Y Z) ∙ ap (λ (ts : List Term). asked (ts ++ (leaves Y ++ leaves Z))) leaves-X
+    ∙ ap (λ (ts : List Term). asked (X ∷ (ts ++ leaves Z))) leaves-Y ∙ ap (λ (ts : List Term). asked (X ∷ Y ∷ ts)) leaves-Z
+
+-- what the trees of one operation are and ask for
+pub ruleset operation_laws = (term-of_one, term-of_two, term-of_three, arity-of_one, arity-of_two, arity-of_three)

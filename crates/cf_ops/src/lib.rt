@@ -3,6 +3,8 @@
 
 pub mod operations;
 pub mod terms;
+#[cfg(test)]
+mod tests;
 pub mod words;
 
 pub use cf_model::terms::{Term, Word1, Word2};

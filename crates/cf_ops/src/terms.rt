@@ -1,52 +1,58 @@
 //! What a term answers: its value, whether it is another one, a copy of it and its arity.
 
-ghost use Rattle.std.specs.Prelude.{◌≡◌, ◌↔◌, IfOk, IsTrue};
+ghost use Rattle.std.specs.Prelude.{◌≡◌, ◌↔◌, ℕ, ℤ, Option, IfOk, IsTrue};
 ghost use Rattle.cf_model.specs.Values.{and_then};
-ghost use Rattle.cf_model.specs.Terms.{term as value_at, value1 as value1_of, value2 as value2_of, joined as joined_of, chosen as chosen_of};
+ghost use Rattle.cf_model.specs.Terms.{term as term_value, value1 as value1_of, value2 as value2_of, joined as joined_of, chosen as chosen_of};
 ghost use Rattle.cf_ops.specs.Arity.{arity_of};
 
-use crate::words;
+use crate::{NoMemory, words};
 use cf_model::terms::{Term, Word1, Word2};
 use sqlite_items::{Boxed, Items};
-use std::alloc::{AllocError, Global};
+use std::alloc::Global;
 
 /// The calls of a term.
 pub trait TermExt {
-    /// The value at three numbers; None where the term has none.
-    fn eval(&self, x: i128, y: i128, z: i128) -> Option<i128>;
+    /// The value at three numbers, where there is one.
+    ghost value: { Self → ℤ → ℤ → ℤ → Option ℤ };
 
-    /// Whether it is an equal tree.
-    fn same(&self, other: &Self) -> bool;
+    /// How many numbers the value asks for, at least 1.
+    ghost asks: { Self → ℕ };
+
+    /// The value at three numbers; None where there is none.
+    fn eval(&self, x: i128, y: i128, z: i128) -> Option<i128>
+        ensures { result ≡ value self.now x y z };
+
+    /// Whether the trees are equal.
+    fn same(&self, other: &Self) -> bool
+        ensures { IsTrue result ↔ (self.now ≡ other.now) };
 
     /// An equal tree.
-    fn copy(&self, alloc: Global) -> Result<Self, AllocError>;
+    fn copy(&self, alloc: Global) -> Result<Self, NoMemory>
+        ensures { IfOk result (λ t. t ≡ self.now) };
 
-    /// 3 if Z occurs, else 2 if Y occurs, else 1.
-    fn arity(&self) -> u8;
+    /// 3 if the third number occurs, else 2 if the second one does, else 1.
+    fn arity(&self) -> u8
+        ensures { result ≡ asks self.now };
 }
 
 impl TermExt for Term {
-    fn eval(&self, x: i128, y: i128, z: i128) -> Option<i128>
-        ensures { result ≡ value_at self.now x y z }
-    {
+    ghost value = { term_value };
+
+    ghost asks = { arity_of };
+
+    fn eval(&self, x: i128, y: i128, z: i128) -> Option<i128> {
         value_of(self, x, y, z)
     }
 
-    fn same(&self, other: &Term) -> bool
-        ensures { IsTrue result ↔ (self.now ≡ other.now) }
-    {
+    fn same(&self, other: &Term) -> bool {
         are_same(self, other)
     }
 
-    fn copy(&self, alloc: Global) -> Result<Term, AllocError>
-        ensures { IfOk result (λ t. t ≡ self.now) }
-    {
+    fn copy(&self, alloc: Global) -> Result<Term, NoMemory> {
         copy_of(self, alloc)
     }
 
-    fn arity(&self) -> u8
-        ensures { result ≡ arity_of self.now }
-    {
+    fn arity(&self) -> u8 {
         arity_in(self)
     }
 }
@@ -103,7 +109,7 @@ fn chosen(x: Option<i128>, y: Option<i128>, z: Option<i128>) -> Option<i128>
 // The value of a term at three numbers.
 #[tactic(auto, using(crate::proofs::TermFacts::leaf_laws))]
 fn value_of(term: &Term, x: i128, y: i128, z: i128) -> Option<i128>
-    ensures { result ≡ value_at term.now x y z }
+    ensures { result ≡ term_value term.now x y z }
 {
     match term {
         Term::X => Some(x),
@@ -161,7 +167,7 @@ fn are_same(left: &Term, right: &Term) -> bool
 }
 
 // An equal tree.
-fn copy_of(term: &Term, alloc: Global) -> Result<Term, AllocError>
+fn copy_of(term: &Term, alloc: Global) -> Result<Term, NoMemory>
     ensures { IfOk result (λ t. t ≡ term.now) }
 {
     match term {
@@ -206,5 +212,41 @@ fn arity_in(term: &Term) -> u8
         Term::Ite(a, b, c) => arity_in(a.get())
             .max(arity_in(b.get()))
             .max(arity_in(c.get())),
+    }
+}
+
+#[cfg(test)]
+mod tests {
+    use super::*;
+
+    #[test]
+    fn values_of_words(rt: HostRuntime) {
+        let (least, greatest) = (i128::MIN, i128::MAX);
+        for (word, x, y, value) in [
+            (Word2::And, 2, 3, Some(1)),
+            (Word2::Or, 0, 3, Some(1)),
+            (Word2::Xor, 2, 3, Some(0)),
+            (Word2::Plus, 2, 3, Some(5)),
+            (Word2::Plus, greatest, 1, None),
+            (Word2::Minus, 2, 3, Some(-1)),
+            (Word2::Minus, least, 1, None),
+            (Word2::Times, 1 << 64, 1 << 63, None),
+            (Word2::Times, 1 << 64, -9223372036854775808, Some(least)),
+            (Word2::Min, -5, 3, Some(-5)),
+            (Word2::Max, -5, 3, Some(3)),
+            (Word2::Eq, 2, 3, Some(0)),
+            (Word2::Lt, -5, 3, Some(1)),
+        ] {
+            assert_eq!(rt; value2(word, x, y), value, "{word:?} of {x} and {y}");
+        }
+        for (word, x, value) in [
+            (Word1::Not, 7, Some(0)),
+            (Word1::Not, 0, Some(1)),
+            (Word1::Neg, 7, Some(-7)),
+            (Word1::Neg, greatest, Some(-greatest)),
+            (Word1::Neg, least, None),
+        ] {
+            assert_eq!(rt; stepped(word, Some(x)), value, "{word:?} of {x}");
+        }
     }
 }
