@@ -1,8 +1,8 @@
-use Rattle.std.proofs.Common.{◌≡◌, ℤ, pos, List, [], ◌∷◌, ◌++◌, max, flat_map, Bool, true, false, ◌||◌, map, Option, Some, refl, sym, ◌∙◌, ap, append-nil, arith}
+use Rattle.std.proofs.Common.{◌≡◌, ℤ, pos, List, [], ◌∷◌, ◌++◌, max, flat_map, Bool, true, false, ◌||◌, Option, Some, refl, ◌∙◌, ap, append-nil}
 use Rattle.std.specs.Prelude.{if◌then◌else◌}
 use Rattle.std.specs.List.{list_any}
 use Rattle.std.proofs.lemmas.List.Folds.{list_any-append}
-use Rattle.cf_model.specs.Terms.{value1, value2, joined, folded, chosen, term}
+use Rattle.cf_model.specs.Terms.{value1, value2, joined, chosen, term}
 use Rattle.cf_model.specs.Values.{and_then}
 use Rattle.cf_model.specs.declared.terms.Word1.{Word1}
 use Rattle.cf_model.specs.declared.terms.Word2.{Word2}

@@ -49,33 +49,42 @@ fn copies_and_values(rt: HostRuntime) -> Result<(), Fail> {
     let alloc = rt.alloc();
     let tree = clamp(alloc)?;
     let copy = copied(alloc, &tree)?;
-    assert!(rt;
-        copy.same(&tree) && !copy.same(&two(alloc, Word2::Plus)?),
-        "the copy alone"
-    );
+    assert!(rt; copy.same(&tree), "the copy is equal");
+    assert!(rt; !copy.same(&Term::X), "X is another one");
     assert_eq!(rt; copy.arity(), 2, "two numbers");
-    for (x, y, value) in [
-        (200, 0, Some(200)),
-        (200, 100, Some(255)),
-        (i128::MAX, 1, None),
-    ] {
-        assert_eq!(rt; copy.eval(x, y, 0), value, "at {x} and {y}");
-    }
+    assert_eq!(rt; copy.eval(200, 0, 0), Some(200), "below the bound");
+    assert_eq!(rt; copy.eval(200, 100, 0), Some(255), "above the bound");
+    assert_eq!(rt; copy.eval(i128::MAX, 1, 0), None, "the sum doesn't fit");
     Ok(())
 }
 
-#[test]
 #[tactic(auto, using(crate::proofs::TermFacts::operation_laws))]
+fn negated(alloc: Global, x: i128) -> Result<Option<i128>, NoMemory> {
+    let op = Op1::new(one(alloc, Word1::Neg)?, words::neg);
+    Ok(op.call(x))
+}
+
+#[tactic(auto, using(crate::proofs::TermFacts::operation_laws))]
+fn added(alloc: Global, x: i128, y: i128) -> Result<Option<i128>, NoMemory> {
+    let op = Op2::new(two(alloc, Word2::Plus)?, words::plus);
+    Ok(op.call(x, y))
+}
+
+#[tactic(auto, using(crate::proofs::TermFacts::operation_laws))]
+fn chosen(alloc: Global, x: i128, y: i128, z: i128) -> Result<Option<i128>, NoMemory> {
+    let op = Op3::new(three(alloc)?, words::ite);
+    Ok(op.call(x, y, z))
+}
+
+#[test]
 fn operations_answer(rt: HostRuntime) -> Result<(), Fail> {
     let alloc = rt.alloc();
-    let neg = Op1::new(one(alloc, Word1::Neg)?, words::neg);
-    let plus = Op2::new(two(alloc, Word2::Plus)?, words::plus);
-    let ite = Op3::new(three(alloc)?, words::ite);
-    assert_eq!(rt; neg.call(i128::MIN), None, "2^127 doesn't fit");
-    assert_eq!(rt; plus.call(2, 3), Some(5), "the sum");
-    assert_eq!(rt; ite.call(-1, 5, 6), Some(5), "true is any other than 0");
-    assert!(rt; neg.tree().same(&one(alloc, Word1::Neg)?), "the tree");
-    assert!(rt; plus.tree().same(&two(alloc, Word2::Plus)?), "the tree");
-    assert!(rt; ite.tree().same(&three(alloc)?), "the tree");
+    assert_eq!(rt; negated(alloc, i128::MIN)?, None, "2^127 doesn't fit");
+    assert_eq!(rt; added(alloc, 2, 3)?, Some(5), "the sum");
+    assert_eq!(rt;
+        chosen(alloc, -1, 5, 6)?,
+        Some(5),
+        "true is any other than 0"
+    );
     Ok(())
 }
