@@ -1,9 +1,28 @@
 // Assignments of up to 128 bits.
 #![tactic(auto)]
 
-ghost use Rattle.std.specs.Prelude.{◌≡◌, ℕ, ◌+◌, ◌<◌, ◌≤◌, ◌/◌, ◌%◌, ◌^◌, ◌==◌, IfSome, Some, length, map, take, drop, slice_get};
+ghost use Rattle.std.specs.Prelude.{◌≡◌, ℕ, ◌+◌, ◌*◌, ◌<◌, ◌≤◌, ◌/◌, ◌%◌, ◌^◌, ◌==◌, ◌↔◌, IsTrue, IfSome, Some, length, map, take, drop, slice_get};
 ghost use Rattle.std.specs.Option.{option_map};
-ghost use Rattle.cf_model.specs.Assignments.{Assignment, bits, bits_of, number_of, digit_of, digits_of, are_digits, bits_of_text};
+ghost use Rattle.cf_model.specs.Assignments.{
+  Assignment,
+  bits,
+  bits_of,
+  number_of,
+  digit_of,
+  digits_of,
+  are_digits,
+  bits_of_text,
+  with_bit,
+  first_half,
+  second_half,
+  weave,
+  unweave,
+  row_of,
+  column_of,
+  is_less,
+  IsLexBefore,
+};
+ghost use Rattle.cf_bits.specs.Numbers.{with_digit};
 
 use std::marker::Model;
 
@@ -66,6 +85,96 @@ impl Bits {
         is_set(self.word, self.len - 1 - i)
     }
 
+    /// The same bits with bit `i`, counted from the first, set to `b`.
+    pub fn with(self, i: u8, b: bool) -> Bits
+        requires { i < self.len }
+        ensures listed { bits result ≡ with_bit (bits self) i b }
+        ensures len { result.len ≡ self.len }
+        ensures number { result.number ≡ number_of (bits result) }
+    {
+        Bits::new(self.len(), self.number_with(i, b))
+    }
+
+    // The number of the bits with bit `i` set to `b`.
+    fn number_with(self, i: u8, b: bool) -> u128
+        requires { i < self.len }
+        ensures { result ≡ number_of (with_bit (bits self) i b) }
+    {
+        let place = place_value(self.len() - 1 - i);
+        let number = self.number();
+        if self.get(i) == b {
+            number
+        } else if b {
+            number + place
+        } else {
+            number - place
+        }
+    }
+
+    /// The first and the second half of the bits.
+    pub fn halves(self) -> (Bits, Bits)
+        requires even { self.len % 2 ≡ 0 }
+        ensures first { bits result.0 ≡ first_half (bits self) }
+        ensures second { bits result.1 ≡ second_half (bits self) }
+        ensures quotient { result.0 ≡ record { len = self.len / 2; number = self.number / 2 ^ (self.len / 2) } }
+        ensures remainder { result.1 ≡ record { len = self.len / 2; number = self.number % 2 ^ (self.len / 2) } }
+    {
+        let half = self.len() / 2;
+        let number = self.number();
+        let size = place_value(half);
+        (
+            Bits::new(half, number / size),
+            Bits::new(half, number % size),
+        )
+    }
+
+    /// The bits of a row index and of a column index by turns, beginning with the row's first.
+    pub fn weave(row: Bits, col: Bits) -> Bits
+        requires equal { row.len ≡ col.len }
+        requires most { row.len ≤ 64 }
+        ensures woven { bits result ≡ weave (bits row) (bits col) }
+        ensures len { result.len ≡ 2 * row.len }
+        ensures number { result.number ≡ number_of (bits result) }
+    {
+        let length = row.len();
+        let mut number = 0u128;
+        for i in 0..length {
+            number = push_digit(number, row.get(i));
+            number = push_digit(number, col.get(i));
+        }
+        Bits::new(2 * length, number)
+    }
+
+    /// The row index and the column index of which these bits are woven.
+    pub fn unweave(self) -> (Bits, Bits)
+        requires even { self.len % 2 ≡ 0 }
+        ensures unwoven { (bits result.0, bits result.1) ≡ unweave (bits self) }
+        ensures woven { weave (bits result.0) (bits result.1) ≡ bits self }
+        ensures row_len { result.0.len ≡ self.len / 2 }
+        ensures column_len { result.1.len ≡ self.len / 2 }
+        ensures row_number { result.0.number ≡ number_of (bits result.0) }
+        ensures column_number { result.1.number ≡ number_of (bits result.1) }
+    {
+        let half = self.len() / 2;
+        let mut row = 0u128;
+        let mut column = 0u128;
+        for i in 0..half {
+            row = push_digit(row, self.get(2 * i));
+            column = push_digit(column, self.get(2 * i + 1));
+        }
+        (Bits::new(half, row), Bits::new(half, column))
+    }
+
+    /// Whether the number is smaller than the other one.
+    pub fn less(self, other: Bits) -> bool
+        requires equal { self.len ≡ other.len }
+        ensures number { IsTrue result ↔ (self.number < other.number) }
+        ensures listed { result ≡ is_less (bits self) (bits other) }
+        ensures order { IsTrue result ↔ IsLexBefore (bits self) (bits other) }
+    {
+        self.number() < other.number()
+    }
+
     /// The bits that a text of 1 to 128 digits `0` and `1` spells; None at any other text.
     pub fn from_text(text: &[u8]) -> Option<Bits>
         ensures spelled { option_map bits result ≡ bits_of_text text.now }
@@ -121,6 +230,22 @@ fn number_spelled(digits: &[u8]) -> u128
     number
 }
 
+// The value of the digit that `k` digits follow.
+fn place_value(k: u8) -> u128
+    requires { k < 128 }
+    ensures { result ≡ 2 ^ k }
+{
+    1u128 << k
+}
+
+// A number with one more digit behind it.
+fn push_digit(number: u128, bit: bool) -> u128
+    requires { number < 2 ^ 127 }
+    ensures { result ≡ with_digit number bit }
+{
+    2 * number + u128::from(bit)
+}
+
 // Whether bit `k` of a word is set, the lowest one being 0.
 fn is_set(word: u128, k: u8) -> bool
     requires { k < 128 }
@@ -144,5 +269,28 @@ mod tests {
         }
         assert!(rt; Bits::from_text(b"012").is_none(), "a digit 2");
         assert!(rt; Bits::from_text(b"").is_none(), "no digit");
+    }
+
+    #[test]
+    fn weaves_and_halves(rt: HostRuntime) {
+        let woven = Bits::weave(Bits::new(3, 0b110), Bits::new(3, 0b011));
+        assert_eq!(rt; woven.number(), 0b10_11_01, "by turns, the row's bit first");
+        let (row, column) = woven.unweave();
+        assert_eq!(rt; row.number(), 0b110, "the row");
+        assert_eq!(rt; column.number(), 0b011, "the column");
+        let (first, second) = woven.halves();
+        assert_eq!(rt; first.number(), 0b101, "the first half");
+        assert_eq!(rt; second.number(), 0b101, "the second half");
+        assert_eq!(rt;
+            woven.with(0, false).number(),
+            0b00_11_01,
+            "the highest bit cleared"
+        );
+        assert_eq!(rt;
+            woven.with(4, true).number(),
+            0b10_11_11,
+            "the last bit but one set"
+        );
+        assert!(rt; Bits::new(3, 0b011).less(Bits::new(3, 0b110)), "3 before 6");
     }
 }

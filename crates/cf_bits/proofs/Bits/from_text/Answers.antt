@@ -1,7 +1,8 @@
 use Rattle.std.proofs.Common.{◌∙◌, ◌==◌, Some, ap, sym, arith, length, map}
 use Rattle.std.proofs.lemmas.List.{length-map}
 use Rattle.cf_model.specs.Assignments.{Assignment, bits_of, number_of}
-use Rattle.cf_bits.proofs.AssignmentLaws.{bits_of-number_at, number_of-bits_of}
+use Rattle.cf_bits.proofs.AssignmentLaws.{bits_of-number_at}
+use Rattle.cf_model.proofs.AssignmentLaws.{number_of-bits_of}
 use Rattle.cf_bits.proofs.Digits.{spelled}
 use Rattle.cf_bits.proofs.Bits.from_text.Goals as goal
 

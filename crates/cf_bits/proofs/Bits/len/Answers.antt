@@ -1,6 +1,6 @@
 use Rattle.std.proofs.Common.{◌∙◌, ap, sym, length}
 use Rattle.cf_model.specs.Assignments.{Assignment, bits}
-use Rattle.cf_bits.proofs.AssignmentLaws.{length-bits_of}
+use Rattle.cf_model.proofs.AssignmentLaws.{length-bits_of}
 use Rattle.cf_bits.proofs.Bits.len.Goals as goal
 
 pub returns-clause-listed : goal.returns-clause-listed

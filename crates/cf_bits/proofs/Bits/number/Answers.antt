@@ -1,6 +1,6 @@
 use Rattle.std.proofs.Common.{◌∙◌, ap, sym}
 use Rattle.cf_model.specs.Assignments.{Assignment, bits, number_of}
-use Rattle.cf_bits.proofs.AssignmentLaws.{number_of-bits_of}
+use Rattle.cf_model.proofs.AssignmentLaws.{number_of-bits_of}
 use Rattle.cf_bits.proofs.Bits.number.Goals as goal
 
 pub returns-clause-listed : goal.returns-clause-listed
