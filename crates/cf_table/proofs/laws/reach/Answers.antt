@@ -16,7 +16,7 @@ pub returns-clause-exits : goal.returns-clause-exits
 returns-clause-exits c =
     let t = c.args.table.now.levels in
     let g = c.args.g in
-    λ k d h. entry_is_exit t c.law.ensures.good g.level g.at k (get_or (pattern t g.level g.at) k d) c.requires.owned (slice_get-get_or (pattern t g.level g.at) k d h)
+    λ k d h. entry_is_exit t c.law.ensures.good g.level g.at c.requires.owned k (get_or (pattern t g.level g.at) k d) (slice_get-get_or (pattern t g.level g.at) k d h)
 
 pub returns-clause-reached : goal.returns-clause-reached
-returns-clause-reached c = λ e h. (let r = exit_reached c.args.table.now.levels c.law.ensures.good c.args.g.level c.args.g.at e c.requires.owned h in (r.0, r.2))
+returns-clause-reached c = λ e h. (let r = exit_reached c.args.table.now.levels c.law.ensures.good c.args.g.level c.args.g.at c.requires.owned e h in (r.0, r.2))
