@@ -2,7 +2,6 @@
 #![tactic(auto)]
 
 pub mod operations;
-pub mod terms;
 #[cfg(test)]
 mod tests;
 pub mod words;
@@ -10,7 +9,6 @@ pub mod words;
 pub use cf_model::terms::{Term, Word1, Word2};
 pub use operations::{Op1, Op2, Op3};
 use std::alloc::AllocError;
-pub use terms::TermExt;
 
 /// There was no memory.
 pub type NoMemory = AllocError;

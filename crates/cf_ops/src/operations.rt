@@ -1,9 +1,8 @@
 //! Operations: a term, and a closure that does its work.
 
 ghost use Rattle.std.specs.Prelude.{◌≡◌, ◌≤◌, pos};
-ghost use Rattle.cf_model.specs.Terms.{term};
+ghost use Rattle.cf_model.specs.Terms.{arity, term};
 ghost use Rattle.cf_ops.specs.Operations.{Answers1, Answers2, Answers3};
-ghost use Rattle.cf_ops.specs.Arity.{arity_of};
 
 use cf_model::terms::Term;
 
@@ -18,7 +17,7 @@ impl<F: Fn(i128) -> Option<i128>> Op1<F> {
     /// The operation of the tree, which the closure answers.
     pub fn new(tree: Term, call: F) -> Op1<F>
         requires answers { Answers1 (F.pre call) (F.post call) tree }
-        requires arity { arity_of tree ≤ 1 }
+        requires arity { arity tree ≤ 1 }
         ensures tree { result.tree ≡ tree }
         ensures answers { Answers1 (F.pre result.call) (F.post result.call) tree }
     {
@@ -52,7 +51,7 @@ impl<F: Fn(i128, i128) -> Option<i128>> Op2<F> {
     /// The operation of the tree, which the closure answers.
     pub fn new(tree: Term, call: F) -> Op2<F>
         requires answers { Answers2 (F.pre call) (F.post call) tree }
-        requires arity { arity_of tree ≤ 2 }
+        requires arity { arity tree ≤ 2 }
         ensures tree { result.tree ≡ tree }
         ensures answers { Answers2 (F.pre result.call) (F.post result.call) tree }
     {
@@ -86,7 +85,7 @@ impl<F: Fn(i128, i128, i128) -> Option<i128>> Op3<F> {
     /// The operation of the tree, which the closure answers.
     pub fn new(tree: Term, call: F) -> Op3<F>
         requires answers { Answers3 (F.pre call) (F.post call) tree }
-        requires arity { arity_of tree ≤ 3 }
+        requires arity { arity tree ≤ 3 }
         ensures tree { result.tree ≡ tree }
         ensures answers { Answers3 (F.pre result.call) (F.post result.call) tree }
     {

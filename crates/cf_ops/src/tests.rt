@@ -40,15 +40,11 @@ fn clamp(alloc: Global) -> Result<Term, NoMemory> {
     Ok(Term::Fold(Word2::Min, Items::from_vec(both)))
 }
 
-fn copied<T: TermExt>(alloc: Global, t: &T) -> Result<T, NoMemory> {
-    t.copy(alloc)
-}
-
 #[test]
 fn copies_and_values(rt: HostRuntime) -> Result<(), Fail> {
     let alloc = rt.alloc();
     let tree = clamp(alloc)?;
-    let copy = copied(alloc, &tree)?;
+    let copy = tree.copy(alloc)?;
     assert!(rt; copy.same(&tree), "the copy is equal");
     assert!(rt; !copy.same(&Term::X), "X is another one");
     assert_eq!(rt; copy.arity(), 2, "two numbers");
