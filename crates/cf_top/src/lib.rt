@@ -31,11 +31,17 @@ pub fn run<S: Source, F: Files, K: Sink>(
 ) -> Status
     // Where the bytes that are read and written are told, the reference run says what is written and how it ends. Only a
     // fault or want of memory cuts it off.
-    ensures run { (IsTrue (is_run (map string_bytes words.now)) → IsTrue (S.tells script.old)) → IsTrue (K.tells out.old) →
-        Meets (ref (map string_bytes words.now) (S.left script.old)) (K.written out.old) (K.written out.new) (S.taken script.old) (S.taken script.new) result }
-    ensures complete { (IsTrue (is_run (map string_bytes words.now)) → IsTrue (S.tells script.old)) → IsTrue (K.tells out.old)
-        → ¬ Rose (S.faults script.old) (S.faults script.new) → ¬ Rose (F.faults files.old) (F.faults files.new) → ¬ Rose (K.faults out.old) (K.faults out.new)
-        → result ≢ Status.NoMemory → Completes (ref (map string_bytes words.now) (S.left script.old)) (K.written out.old) (K.written out.new) result }
+    ensures run { let said = map string_bytes words.now in
+        (IsTrue (is_run said) → IsTrue (S.tells script.old)) → IsTrue (K.tells out.old) →
+        Meets (ref said (S.left script.old)) (K.written out.old) (K.written out.new)
+        (S.taken script.old) (S.taken script.new) result }
+    ensures complete { let said = map string_bytes words.now in
+        (IsTrue (is_run said) → IsTrue (S.tells script.old)) → IsTrue (K.tells out.old) →
+        ¬ Rose (S.faults script.old) (S.faults script.new) →
+        ¬ Rose (F.faults files.old) (F.faults files.new) →
+        ¬ Rose (K.faults out.old) (K.faults out.new) →
+        result ≢ Status.NoMemory →
+        Completes (ref said (S.left script.old)) (K.written out.old) (K.written out.new) result }
 
     // At Done the source has ended, and nothing is left.
     ensures ended { result ≡ Status.Done → IsTrue (S.ended script.new) }
@@ -43,7 +49,8 @@ pub fn run<S: Source, F: Files, K: Sink>(
 
     // Other words than `run` read nothing and want no memory.
     ensures usage { result ≡ Status.Usage → is_run (map string_bytes words.now) ≡ false }
-    ensures others { is_run (map string_bytes words.now) ≡ false → (result ≡ Status.Usage) ⊎ (result ≡ Status.WriteFault) }
+    ensures others { is_run (map string_bytes words.now) ≡ false →
+        (result ≡ Status.Usage) ⊎ (result ≡ Status.WriteFault) }
     ensures unread { is_run (map string_bytes words.now) ≡ false → script.new ≡ script.old }
 
     // Faults have causes.

@@ -29,7 +29,8 @@ enum Carried {
 /// Reads the script and carries it out, beginning without level and names.
 pub(crate) fn run_script<S: Source, K: Sink>(alloc: Global, script: &mut S, out: &mut K) -> Status
     ensures run { IsTrue (S.tells script.old) → IsTrue (K.tells out.old) →
-        Meets (run_lines initial 1 0 (lines_of (S.left script.old))) (K.written out.old) (K.written out.new) (S.taken script.old) (S.taken script.new) result }
+        Meets (run_lines initial 1 0 (lines_of (S.left script.old))) (K.written out.old) (K.written out.new)
+        (S.taken script.old) (S.taken script.new) result }
     ensures ended { result ≡ Status.Done → IsTrue (S.ended script.new) }
     ensures done { IsTrue (S.tells script.old) → result ≡ Status.Done → S.left script.new ≡ [] }
     ensures words { result ≢ Status.Usage }
@@ -55,7 +56,8 @@ fn run_lines<S: Source, K: Sink>(
 ) -> Status
     requires { lines.old ≡ record { bytes = []; handed = 0; ended = false } }
     ensures run { IsTrue (S.tells script.old) → IsTrue (K.tells out.old) →
-        Meets (run_lines session.old 1 0 (lines_of (S.left script.old))) (K.written out.old) (K.written out.new) (S.taken script.old) (S.taken script.new) result }
+        Meets (run_lines session.old 1 0 (lines_of (S.left script.old))) (K.written out.old) (K.written out.new)
+        (S.taken script.old) (S.taken script.new) result }
     ensures ended { result ≡ Status.Done → IsTrue (S.ended script.new) }
     ensures done { IsTrue (S.tells script.old) → result ≡ Status.Done → S.left script.new ≡ [] }
     ensures words { result ≢ Status.Usage }
@@ -85,7 +87,8 @@ fn run_lines<S: Source, K: Sink>(
 /// Carries out one line that isn't too long, and writes its reply or its refusal.
 fn carry_line<K: Sink>(session: &mut Session, number: u64, line: &[u8], out: &mut K) -> Carried
     ensures carries { IsTrue (K.tells out.old) →
-        Carries (step_parsed session.old (parse_of line.now)) number session.old (K.written out.old) session.new (K.written out.new) result }
+        Carries (step_parsed session.old (parse_of line.now)) number
+        session.old (K.written out.old) session.new (K.written out.new) result }
     ensures stops { EndsLine result }
     ensures told { K.tells out.new ≡ K.tells out.old }
     ensures later { K.faults out.old ≤ K.faults out.new }
@@ -116,7 +119,8 @@ fn carry(session: &mut Session, line: &[u8]) -> Stepped
 
 /// Writes the refusal of a line, which ends the run.
 fn refuse<K: Sink>(refusal: Refusal, number: u64, out: &mut K) -> Status
-    ensures refused { IsTrue (K.tells out.old) → (s : State) → StopsAt (Refuses (refusal_view refusal)) number s (K.written out.old) s (K.written out.new) result }
+    ensures refused { IsTrue (K.tells out.old) → (s : State) →
+        StopsAt (Refuses (refusal_view refusal)) number s (K.written out.old) s (K.written out.new) result }
     ensures stops { EndsRefusal result }
     ensures told { K.tells out.new ≡ K.tells out.old }
     ensures later { K.faults out.old ≤ K.faults out.new }

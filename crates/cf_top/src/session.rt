@@ -98,7 +98,8 @@ impl Session {
 
     /// Binds a name, in its place if it is bound already.
     fn bind(&mut self, name: &[u8], function: Function) -> Result<(), AllocError>
-        ensures ok { OnOk result (self.new ≡ record { level = self.old.level; functions = bind self.old.functions name.now (function_view function) }) }
+        ensures ok { let functions = bind self.old.functions name.now (function_view function) in
+            OnOk result (self.new ≡ record { level = self.old.level; functions = functions }) }
         ensures err { OnErr result (self.new ≡ self.old) }
     {
         let name = Vec::from_slice(self.alloc, name)?;
