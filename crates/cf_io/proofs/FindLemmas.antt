@@ -3,8 +3,8 @@ use Rattle.std.proofs.lemmas.List.{take_all, drop_all, length-take-le}
 use Rattle.cf_reference.specs.Lines.{Line, line_end, lines, size, fit, LineTooLong, ScriptTooLong, NoNewline}
 use Rattle.cf_reference.proofs.LineLaws.{lines_newline, lines_last, lines_nil, lines_front, front_long, front_over, is_long, is_over}
 use Rattle.cf_io.specs.Held.{Held}
-use Rattle.cf_io.specs.LineSteps.{Splits, HandsOut, IsFirst, BeginsTooLong}
-use Rattle.cf_io.specs.Windows.{held, state, between, answer_in, Hands}
+use Rattle.cf_io.specs.LineSteps.{Splits, Takes, HandsOut, IsFirst, BeginsTooLong}
+use Rattle.cf_io.specs.Windows.{Comes, held, state, between, answer_in, Hands}
 use Rattle.cf_io.specs.declared.lines.Window.{Window}
 use Rattle.cf_io.specs.declared.lines.Found.{Found}
 use Rattle.cf_io.specs.declared.lines.Found.TheVariants as found
@@ -30,6 +30,17 @@ splits_of w w2 line left old found.End t cut e = absurd t
 splits_of w w2 line left old found.TooLong t cut e = ap (λ (h : Held). h.bytes ++ left) t.1 ∙ e
 splits_of w w2 line left old found.ScriptTooLong t cut e = ap (λ (h : Held). h.bytes ++ left) t.1 ∙ e
 splits_of w w2 line left old found.ReadFault t cut e = absurd t
+
+-- the bytes that were taken, where a line is handed out or too long
+pub takes_of : (from : Held) (w w2 : Window) (line : Line) (l0 l1 r0 r1 : List ℕ) (r : Found) → Hands w w2 line r → Cuts (held w) line
+    → Comes from.bytes (held w) l0 l1 r0 r1 → Takes from (state w2) l0 l1 r0 r1 (answer_in w2.buf.items r)
+takes_of from w w2 line l0 l1 r0 r1 r h cut c = record {
+  fresh = c.fresh;
+  read = c.read;
+  left = c.left;
+  splits = subst (λ new. Splits (from.bytes ++ c.fresh) new (answer_in w2.buf.items r)) (append-nil (held w2))
+      (splits_of w w2 line [] (from.bytes ++ c.fresh) r h cut (append-nil (held w) ∙ c.held));
+}
 
 pub hands_of : (from : Held) (w w2 : Window) (line : Line) (left old : List ℕ) (r : Found) → Hands w w2 line r → w.handed ≡ from.handed
     → lines (held w ++ left) ≡ line ∷ lines (drop (size line) (held w) ++ left) → held w ++ left ≡ old → (line.newline ≡ false → IsTrue w2.ended)

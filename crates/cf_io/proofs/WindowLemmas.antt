@@ -1,9 +1,9 @@
-use Rattle.std.proofs.Common.{ℕ, zero, suc, ◌≡◌, ◌≢◌, ◌+◌, ◌-◌, ◌<◌, ◌≤◌, List, [], ◌∷◌, ◌++◌, length, take, drop, slice_index, refl, ap, sym, ◌∙◌, arith, subst, append_assoc, length-drop}
+use Rattle.std.proofs.Common.{ℕ, zero, suc, ◌≡◌, ◌≢◌, ◌+◌, ◌-◌, ◌<◌, ◌≤◌, List, [], ◌∷◌, ◌++◌, length, take, drop, slice_index, refl, ap, sym, ◌∙◌, arith, subst, append_assoc, append-nil, length-drop}
 use Rattle.std.proofs.Math.Seq.{take-add}
 use Rattle.std.proofs.lemmas.List.{drop-drop, drop-take, length-take, take-take, take_at}
 use Rattle.cf_reference.specs.Lines.{NoNewline}
 use Rattle.cf_reference.proofs.LineLaws.{plain_append}
-use Rattle.cf_io.specs.Windows.{between}
+use Rattle.cf_io.specs.Windows.{between, Comes}
 
 -- bytes are free of newlines where each of their places is
 pub plain_take : (i : ℕ) (bytes : List ℕ) → i ≤ length bytes → ((k : ℕ) → k < i → slice_index bytes k ≢ 10) → NoNewline (take i bytes)
@@ -92,3 +92,25 @@ copied at n bytes piece rest h e =
     let is : piece ≡ take n (drop at bytes) = e ∙ ap (λ j. take j (drop at bytes)) k in
     let len : length piece ≡ n = omega (arith, ap length is, length-take n (drop at bytes), length-drop at bytes) in
     take-add at n bytes ∙ ap (λ w. take at bytes ++ w) (sym is ∙ sym (take_at piece rest n len))
+
+-- nothing came, and more came
+pub comes_none : (held left read : List ℕ) → Comes held held left left read read
+comes_none held left read = record { fresh = []; read = sym (append-nil read); left = refl; held = sym (append-nil held) }
+
+pub comes_more : (h0 h1 h2 l0 l1 l2 r0 r1 r2 : List ℕ) → Comes h0 h1 l0 l1 r0 r1 → Comes h1 h2 l1 l2 r1 r2 → Comes h0 h2 l0 l2 r0 r2
+comes_more h0 h1 h2 l0 l1 l2 r0 r1 r2 a b = record {
+  fresh = a.fresh ++ b.fresh;
+  read = b.read ∙ ap (λ r. r ++ b.fresh) a.read ∙ append_assoc r0 a.fresh b.fresh;
+  left = a.left ∙ ap (λ l. a.fresh ++ l) b.left ∙ sym (append_assoc a.fresh b.fresh l2);
+  held = b.held ∙ ap (λ h. h ++ b.fresh) a.held ∙ append_assoc h0 a.fresh b.fresh;
+}
+
+pub comes_behind : (from upto n upto2 : ℕ) (items new mid held left left2 read read2 : List ℕ) → items ≡ new → from ≤ upto → upto2 ≡ upto + n
+    → take upto new ≡ take upto mid → between from upto mid ≡ held → left ≡ take n (drop upto new) ++ left2 → read2 ≡ read ++ take n (drop upto new)
+    → Comes held (between from upto2 items) left left2 read read2
+comes_behind from upto n upto2 items new mid held left left2 read read2 e h u k b l r = record {
+  fresh = take n (drop upto new);
+  read = r;
+  left = l;
+  held = behind_held from upto n upto2 items new mid held e h u k b;
+}

@@ -8,3 +8,4 @@ pub mod Held
 pub mod Answers
 pub mod LineSteps
 pub mod Windows
+pub mod Memory

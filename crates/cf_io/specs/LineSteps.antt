@@ -37,6 +37,13 @@ Splits old new answer.TooLong = new ≡ old
 Splits old new answer.ScriptTooLong = new ≡ old
 Splits old new answer.ReadFault = new ≡ old
 
+-- the bytes that were taken from the source: what was held and they are split, and the rest is left
+pub record Takes (old new : Held) (left_old left_new read_old read_new : List ℕ) (answer : Answer) : Type 0 where
+  pub fresh : List ℕ
+  pub read : read_new ≡ read_old ++ fresh
+  pub left : left_old ≡ fresh ++ left_new
+  pub splits : Splits (old.bytes ++ fresh) new.bytes answer
+
 -- the answer is the first of the lines that are to come
 pub record IsFirst (from to : Held) (old new line : List ℕ) (newline : Bool) : Type 0 where
   pub lines : lines old ≡ record { bytes = line; newline = newline } ∷ lines new

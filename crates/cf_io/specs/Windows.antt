@@ -1,4 +1,4 @@
-use Rattle.std.specs.Prelude.{ℕ, ◌≡◌, ◌+◌, ◌≤◌, ◌-◌, List, take, drop, length}
+use Rattle.std.specs.Prelude.{ℕ, ◌≡◌, ◌+◌, ◌≤◌, ◌-◌, ◌++◌, List, take, drop, length}
 use Rattle.cf_reference.specs.Lines as lines
 use Rattle.cf_reference.specs.Lines.{Line, fit, line_end, size}
 use Rattle.cf_io.specs.Held.{Held}
@@ -24,6 +24,13 @@ pub record IsSound (w : Window) : Type 0 where
   pub within : w.upto ≤ length w.buf.items
   pub size : length w.buf.items ≡ 262148
   pub handed : w.handed ≤ 1073741824
+
+-- the bytes that were taken from the source stand behind those that were held
+pub record Comes (held_old held_new left_old left_new read_old read_new : List ℕ) : Type 0 where
+  pub fresh : List ℕ
+  pub read : read_new ≡ read_old ++ fresh
+  pub left : left_old ≡ fresh ++ left_new
+  pub held : held_new ≡ held_old ++ fresh
 
 -- the bytes between two places of a buffer
 abbrev pub between : ℕ → ℕ → List ℕ → List ℕ

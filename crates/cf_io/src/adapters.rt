@@ -17,6 +17,8 @@ impl<R: Read> HostSource<R> {
     /// A source over a reader from which nothing was taken.
     pub fn new(reader: R) -> HostSource<R>
         ensures taken { ⟦<HostSource<R> as Source>⟧.taken result ≡ 0 }
+        ensures ended { ⟦<HostSource<R> as Source>⟧.ended result ≡ false }
+        ensures faults { ⟦<HostSource<R> as Source>⟧.faults result ≡ 0 }
     {
         HostSource {
             reader,
@@ -73,7 +75,9 @@ pub struct HostSink<W: Write> {
 
 impl<W: Write> HostSink<W> {
     /// A sink over a writer.
-    pub fn new(writer: W) -> HostSink<W> {
+    pub fn new(writer: W) -> HostSink<W>
+        ensures faults { ⟦<HostSink<W> as Sink>⟧.faults result ≡ 0 }
+    {
         HostSink { writer, faults: 0 }
     }
 }

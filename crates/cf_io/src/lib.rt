@@ -22,3 +22,6 @@ pub use source::{Got, Source};
 
 /// Memory that was asked for isn't there.
 pub type NoMemory = std::alloc::AllocError;
+
+#[cfg(test)]
+mod tests;

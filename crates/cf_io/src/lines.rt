@@ -4,14 +4,15 @@ ghost use Rattle.std.specs.Io.BufRead.{Rests};
 ghost use Rattle.cf_reference.specs.Lines.{fit, line_end, NoNewline};
 ghost use Rattle.cf_io.specs.Causes.{HasCause, Rose};
 ghost use Rattle.cf_io.specs.Held.{Held};
-ghost use Rattle.cf_io.specs.LineSteps.{Advances, answer_of, HandsOut, IsReadFault, Splits};
+ghost use Rattle.cf_io.specs.LineSteps.{Advances, answer_of, HandsOut, IsReadFault, Splits, Takes};
 ghost use Rattle.cf_io.specs.Reading.{count_of, GotWithin, is_end, is_failed};
-ghost use Rattle.cf_io.specs.Windows.{answer_in, fit_of, Hands, held, IsSound, LiesIn, state};
+ghost use Rattle.cf_io.specs.Windows.{answer_in, Comes, fit_of, Hands, held, IsSound, LiesIn, state};
 ghost use Rattle.cf_io.specs.contracts.lines.Lines.{the_row};
 
+use crate::NoMemory;
 use crate::source::{Got, Source};
 use memchr::memchr;
-use std::alloc::{AllocError, Global};
+use std::alloc::Global;
 use std::marker::Model;
 
 /// The bytes of the longest line, its line end not counted.
@@ -25,6 +26,7 @@ const BUFFER: usize = 262_148;
 
 /// What a read of a line gave: the line without its line end, the end of input, a line or a script that is too long, or a
 /// failure of the source.
+#[derive(Clone, Copy, Debug)]
 pub enum Next<'a> {
     Line(&'a [u8]),
     End,
@@ -78,7 +80,7 @@ impl Model for Lines {
 
 impl Lines {
     /// A buffer that holds nothing.
-    pub fn new(alloc: Global) -> Result<Lines, AllocError>
+    pub fn new(alloc: Global) -> Result<Lines, NoMemory>
         ensures { IfOk result (λ l. l ≡ record { bytes = []; handed = 0; ended = false }) }
     {
         let buf = vec![in alloc; 0u8; BUFFER]?;
@@ -101,7 +103,10 @@ impl Lines {
             × (IsTrue (S.tells source.old) → Splits (self.old.bytes ++ S.left source.old) (new.bytes ++ S.left source.new) (answer_of result))
             × (IsTrue (S.tells source.old) → (IsTrue self.old.ended → S.left source.old ≡ []) →
             HandsOut self.old (self.old.bytes ++ S.left source.old) new (new.bytes ++ S.left source.new) (answer_of result)
-            × (IsTrue new.ended → S.left source.new ≡ [])))) }
+            × (IsTrue new.ended → S.left source.new ≡ []))
+            × (IsTrue (S.tells source.old) →
+            Takes self.old new (S.left source.old) (S.left source.new) (S.read_bytes source.old) (S.read_bytes source.new) (answer_of result)))) }
+        ensures quiet { IsTrue self.old.ended → source.new ≡ source.old }
         ensures told { S.tells source.new ≡ S.tells source.old }
         ensures later { S.faults source.old ≤ S.faults source.new }
         ensures cause { IsReadFault (answer_of result) → Rose (S.faults source.old) (S.faults source.new) }
@@ -129,6 +134,10 @@ fn find<S: Source>(window: &mut Window, source: &mut S) -> Found
         HandsOut (state window.old) (held window.old ++ S.left source.old) (state window.new) (held window.new ++ S.left source.new)
         (answer_in window.new.buf.items result)
         × (IsTrue window.new.ended → S.left source.new ≡ []) }
+    ensures takes { IsTrue (S.tells source.old) →
+        Takes (state window.old) (state window.new) (S.left source.old) (S.left source.new) (S.read_bytes source.old) (S.read_bytes source.new)
+        (answer_in window.new.buf.items result) }
+    ensures quiet { IsTrue window.old.ended → source.new ≡ source.old }
     ensures told { S.tells source.new ≡ S.tells source.old }
     ensures later { S.faults source.old ≤ S.faults source.new }
     ensures cause { IsReadFault (answer_in window.new.buf.items result) → Rose (S.faults source.old) (S.faults source.new) }
@@ -244,6 +253,8 @@ fn refill<S: Source>(window: &mut Window, source: &mut S) -> Got
     ensures source_ended { S.ended source.new ≡ is_end result }
     ensures taken { S.taken source.new ≡ S.taken source.old + count_of result }
     ensures stream { IsTrue (S.tells source.old) → held window.new ++ S.left source.new ≡ held window.old ++ S.left source.old }
+    ensures comes { IsTrue (S.tells source.old) →
+        Comes (held window.old) (held window.new) (S.left source.old) (S.left source.new) (S.read_bytes source.old) (S.read_bytes source.new) }
     ensures end { IsTrue (S.tells source.old) → IsTrue (is_end result) → S.left source.new ≡ [] }
     ensures told { S.tells source.new ≡ S.tells source.old }
     ensures cause { HasCause (S.faults source.old) (S.faults source.new) (is_failed result) }
@@ -265,6 +276,7 @@ fn read_behind<S: Source>(buf: &mut [u8], used: usize, source: &mut S) -> Got
     ensures room { length buf.new ≡ length buf.old }
     ensures kept { take used buf.new ≡ take used buf.old }
     ensures bytes { IsTrue (S.tells source.old) → S.left source.old ≡ take (count_of result) (drop used buf.new) ++ S.left source.new }
+    ensures read_bytes { IsTrue (S.tells source.old) → S.read_bytes source.new ≡ S.read_bytes source.old ++ take (count_of result) (drop used buf.new) }
     ensures end { IsTrue (S.tells source.old) → IsTrue (is_end result) → S.left source.old ≡ [] }
     ensures taken { S.taken source.new ≡ S.taken source.old + count_of result }
     ensures source_ended { S.ended source.new ≡ is_end result }

@@ -1,8 +1,9 @@
-ghost use Rattle.std.specs.Prelude.{◌≡◌, ℕ, ◌+◌, ◌≤◌, Bool, true, List, [], ◌++◌, length, take, vec_len, IsTrue, IfOk};
+ghost use Rattle.std.specs.Prelude.{◌≡◌, ℕ, ◌+◌, ◌<◌, ◌≤◌, Bool, true, List, [], ◌++◌, length, take, vec_len, IsTrue, IfOk};
 
+use crate::NoMemory;
 use crate::calls::Calls;
 use crate::sink::{Put, Sink};
-use std::alloc::{AllocError, Global};
+use std::alloc::Global;
 
 /// A sink in memory with a fixed room. A write takes at most `piece` bytes, and fails where the sink is full. The calls
 /// fail whose numbers, counted from 0, are listed.
@@ -17,14 +18,17 @@ pub struct MemSink {
 }
 
 impl MemSink {
+    ghost use Rattle.cf_io.specs.Memory.{writer};
+
     /// An empty sink, whose room of `room` bytes is taken at once.
     pub fn new(
         alloc: Global,
         room: usize,
         piece: usize,
         fails: Vec<u64>,
-    ) -> Result<MemSink, AllocError>
+    ) -> Result<MemSink, NoMemory>
         requires { 1 ≤ piece }
+        ensures writer { IfOk result (λ s. writer s ≡ record { written = []; room = room; piece = piece; fails = fails.items; calls = 0 }) }
         ensures tells { IfOk result (λ s. IsTrue (⟦<MemSink as Sink>⟧.tells s)) }
         ensures written { IfOk result (λ s. ⟦<MemSink as Sink>⟧.written s ≡ []) }
         ensures faults { IfOk result (λ s. ⟦<MemSink as Sink>⟧.faults s ≡ 0) }
@@ -56,13 +60,25 @@ fn copy_behind(buf: &mut [u8], used: usize, piece: &[u8])
 }
 
 impl Sink for MemSink {
+    ghost use Rattle.cf_io.specs.Causes.{HasCause};
+    ghost use Rattle.cf_io.specs.Memory.{after_write, write_answer, writer};
+    ghost use Rattle.cf_io.specs.Putting.{is_put_failed, took, TookWithin};
+
     ghost tells = { λ _. true };
 
     ghost written = { λ s. take s.used s.room.items };
 
     ghost faults = { λ s. s.calls.faults };
 
-    fn write(&mut self, piece: &[u8]) -> Put {
+    fn write(&mut self, piece: &[u8]) -> Put
+        requires { 0 < length piece.now }
+        ensures answer { result ≡ write_answer (writer self.old) (length piece.now) }
+        ensures writer { writer self.new ≡ after_write (writer self.old) piece.now result }
+        ensures bound { TookWithin result (length piece.now) }
+        ensures bytes { IsTrue (⟦<MemSink as Sink>⟧.tells self.old) → ⟦<MemSink as Sink>⟧.written self.new ≡ ⟦<MemSink as Sink>⟧.written self.old ++ take (took result) piece.now }
+        ensures told { ⟦<MemSink as Sink>⟧.tells self.new ≡ ⟦<MemSink as Sink>⟧.tells self.old }
+        ensures cause { HasCause (⟦<MemSink as Sink>⟧.faults self.old) (⟦<MemSink as Sink>⟧.faults self.new) (is_put_failed result) }
+    {
         if self.calls.fails_now() {
             return Put::Failed;
         }

@@ -1,6 +1,6 @@
 use Rattle.std.proofs.Common.{◌≡◌, true, false, [], ◌∷◌, Some, None, refl, inl, inr}
 use Rattle.std.specs.Prelude.{codes}
-use Rattle.cf_model.specs.Assignments.{number_of, bits_of, bits, digits_of, bits_of_text, first_half, second_half, weave, row_of, column_of, unweave, bit_at, with_bit, is_less, IsLexBefore, all_bits}
+use Rattle.cf_model.specs.Assignments.{number_of, bits_of, bits, digit_of, digits_of, are_digits, bits_of_text, first_half, second_half, weave, row_of, column_of, unweave, bit_at, with_bit, is_less, IsLexBefore, all_bits}
 
 -- the first bit is the highest: 100 has number 4, and 001 has number 1
 number_of_100 : number_of (true ∷ false ∷ false ∷ []) ≡ 4
@@ -22,11 +22,23 @@ bits_of_word = refl
 bits_of_full_word : bits (record { len = 3; number = 7 }) ≡ true ∷ true ∷ true ∷ []
 bits_of_full_word = refl
 
+digit_of_1 : digit_of true ≡ 49
+digit_of_1 = refl
+
+digit_of_0 : digit_of false ≡ 48
+digit_of_0 = refl
+
 digits_of_10 : digits_of (true ∷ false ∷ []) ≡ codes "10"
 digits_of_10 = refl
 
 digits_of_none : digits_of [] ≡ []
 digits_of_none = refl
+
+are_digits_011 : are_digits (codes "011") ≡ true
+are_digits_011 = refl
+
+are_digits_02 : are_digits (codes "02") ≡ false
+are_digits_02 = refl
 
 text_011 : bits_of_text (codes "011") ≡ Some (false ∷ true ∷ true ∷ [])
 text_011 = refl
@@ -44,6 +56,9 @@ first_half_of_0110 = refl
 second_half_of_0110 : second_half (false ∷ true ∷ true ∷ false ∷ []) ≡ true ∷ false ∷ []
 second_half_of_0110 = refl
 
+second_half_of_01 : second_half (false ∷ true ∷ []) ≡ true ∷ []
+second_half_of_01 = refl
+
 -- The row 11 and the column 00 are the assignment 1010. Its first half is 10 and no row index.
 weave_11_00 : weave (true ∷ true ∷ []) (false ∷ false ∷ []) ≡ true ∷ false ∷ true ∷ false ∷ []
 weave_11_00 = refl
@@ -56,6 +71,15 @@ weave_0_1 = refl
 
 unweave_1010 : unweave (true ∷ false ∷ true ∷ false ∷ []) ≡ (true ∷ true ∷ [], false ∷ false ∷ [])
 unweave_1010 = refl
+
+unweave_01 : unweave (false ∷ true ∷ []) ≡ (false ∷ [], true ∷ [])
+unweave_01 = refl
+
+row_of_0111 : row_of (false ∷ true ∷ true ∷ true ∷ []) ≡ false ∷ true ∷ []
+row_of_0111 = refl
+
+column_of_0111 : column_of (false ∷ true ∷ true ∷ true ∷ []) ≡ true ∷ true ∷ []
+column_of_0111 = refl
 
 row_of_01 : row_of (false ∷ true ∷ []) ≡ false ∷ []
 row_of_01 = refl
@@ -86,6 +110,13 @@ lex_01_10 = inl (refl, refl)
 
 lex_10_11 : IsLexBefore (true ∷ false ∷ []) (true ∷ true ∷ [])
 lex_10_11 = inr (refl, inl (refl, refl))
+
+-- lists of two lengths: 011 comes before 10, though its number is greater
+lex_before_of_lengths : IsLexBefore (false ∷ true ∷ true ∷ []) (true ∷ false ∷ [])
+lex_before_of_lengths = inl (refl, refl)
+
+less_of_lengths : is_less (false ∷ true ∷ true ∷ []) (true ∷ false ∷ []) ≡ false
+less_of_lengths = refl
 
 all_of_one : all_bits 1 ≡ (false ∷ []) ∷ (true ∷ []) ∷ []
 unfolding all_bits

@@ -178,6 +178,15 @@ weave-append [] b (y ∷ c) d e = absurd (omega (arith, e))
 weave-append (x ∷ a) b [] d e = absurd (omega (arith, e))
 weave-append (x ∷ a) b (y ∷ c) d e = ap (λ (xs : List Bool). x ∷ y ∷ xs) (weave-append a b c d (omega (arith, e)))
 
+-- the equations of `all_bits`, which stays closed
+pub all_bits-none : all_bits 0 ≡ [] ∷ []
+unfolding all_bits
+all_bits-none = refl
+
+pub all_bits-more : (k : ℕ) → all_bits (suc k) ≡ map (λ bits. false ∷ bits) (all_bits k) ++ map (λ bits. true ∷ bits) (all_bits k)
+unfolding all_bits
+all_bits-more k = refl
+
 -- there are 2 ^ k lists of k bits
 pub length-all_bits : (k : ℕ) → length (all_bits k) ≡ 2 ^ k
 unfolding all_bits

@@ -7,6 +7,19 @@ use Rattle.cf_model.specs.FlatFunctions.{points}
 use Rattle.cf_model.specs.Diagrams.{Levels, Connection, Node, no_connection, exit_at, connection_at, count, node, row, spell, pattern, all_returns, exits, IsGoodConnection, IsGoodNode, IsGood}
 use Rattle.cf_model.proofs.Growth.{carried, unique, Under, Under-width}
 
+-- the equations of `pattern`, which stays closed
+pub pattern-dont_care : (t : Levels) → pattern t 0 0 ≡ 0 ∷ 0 ∷ []
+unfolding pattern
+pattern-dont_care t = refl
+
+pub pattern-fork : (t : Levels) (i : ℕ) → pattern t 0 (suc i) ≡ 0 ∷ 1 ∷ []
+unfolding pattern
+pattern-fork t i = refl
+
+pub pattern-above : (t : Levels) (l i : ℕ) → pattern t (suc l) i ≡ spell (pattern t l) (node t (suc l) i)
+unfolding pattern
+pattern-above t l i = refl
+
 -- what the level below owes: `c` groupings with the patterns `p`, of `e` exits and `n` points each
 pub record GoodLevel (c n : ℕ) (e : ℕ → ℕ) (p : ℕ → List ℕ) : Type 0 where
   pub grows : (i : ℕ) → i < c → Grows 0 (p i)

@@ -1,7 +1,9 @@
-use Rattle.std.proofs.Common.{◌≡◌, ℕ, zero, suc, ◌<◌, pos, true, false, List, [], ◌∷◌, Some, refl, ap, arith}
+use Rattle.std.proofs.Common.{ℕ, List, length, ◌≡◌, ℕ, zero, suc, ◌<◌, List, [], ◌∷◌, refl, ap, arith}
 use Rattle.cf_model.specs.Patterns.{sub, cut_into}
-use Rattle.cf_model.specs.Diagrams.{Levels, Connection, Node, no_connection, no_node, exit_at, connection_at, nodes, count, node, row, spell, pattern, all_returns, exits, IsGoodConnection, IsGoodNode, IsGood, Extends, with_node, function_value, HasPattern, HasPatterns}
+use Rattle.cf_model.specs.Diagrams.{Levels, Connection, Node, no_connection, no_node, exit_at, connection_at, nodes, count, node, row, spell, pattern, all_returns, exits, IsGoodConnection, IsGoodNode, IsGood, Extends, with_node, HasPattern, HasPatterns}
 use Rattle.cf_model.proofs.GoodnessFacts.{TwoBaseGroupings, ACalleesExist, MiddlesMatchExits, BCalleesExist, EntriesMatchExits, NoEntryTwice, FirstReach, NoEqualConnections, NoEqualNodes, broken_facts, good_from_tests}
+use Rattle.std.specs.Prelude.{◌^◌}
+use Rattle.cf_model.proofs.Canonicity.{pattern_full}
 use Rattle.cf_model.proofs.Growing.{with_node_extends}
 
 -- the places of the two groupings of level 0
@@ -99,6 +101,10 @@ exit_at_0 = refl
 exit_at_1 : exit_at (to fork (1 ∷ 0 ∷ [])) 1 ≡ 0
 exit_at_1 = refl
 
+-- the entry at 0, and not the place at which 0 stands
+exit_at_of_three : exit_at (to 0 (2 ∷ 0 ∷ 1 ∷ [])) 0 ≡ 2
+exit_at_of_three = refl
+
 -- a row is the callee's pattern, read through the return tuple
 row_of_fork : row (pattern four 0) (to fork (1 ∷ 0 ∷ [])) ≡ 1 ∷ 0 ∷ []
 unfolding pattern
@@ -124,6 +130,13 @@ returns_of_first = refl
 
 exits_of_conjunction : exits four 1 2 ≡ 2
 exits_of_conjunction = refl
+
+-- two exits and one middle vertex
+exits_of_second : exits four 1 0 ≡ 2
+exits_of_second = refl
+
+middles_of_second : length second.connections ≡ 1
+middles_of_second = refl
 
 exits_of_dont_care : exits four 0 dont_care ≡ 1
 exits_of_dont_care = refl
@@ -204,16 +217,20 @@ more_extends = with_node_extends (table (second ∷ first ∷ [])) 1 conjunction
 moved_does_not_extend : Extends (table (second ∷ first ∷ [])) (table (first ∷ second ∷ [])) → ⊥
 moved_does_not_extend x = omega (arith, ap (λ (n : Node). n.a_callee) (x.kept 1 0 (omega arith)))
 
--- the value of exit 1 at 11, and of exit 0 at 01
-value_of_conjunction : function_value (0 ∷ 0 ∷ 0 ∷ 1 ∷ []) (pos 5 ∷ pos 7 ∷ []) (true ∷ true ∷ []) ≡ Some (pos 7)
-value_of_conjunction = refl
-
-value_of_conjunction_01 : function_value (0 ∷ 0 ∷ 0 ∷ 1 ∷ []) (pos 5 ∷ pos 7 ∷ []) (false ∷ true ∷ []) ≡ Some (pos 5)
-value_of_conjunction_01 = refl
-
 four_have_0001 : HasPattern four (record { level = 1; ranks = 0 ∷ 0 ∷ 0 ∷ 1 ∷ [] })
 unfolding pattern
 four_have_0001 = (2, omega arith, refl)
+
+four_have_01 : HasPattern four (record { level = 0; ranks = 0 ∷ 1 ∷ [] })
+unfolding pattern
+four_have_01 = (fork, omega arith, refl)
+
+four_have_nothing : HasPatterns four []
+four_have_nothing = tt
+
+-- a grouping of level 7: its pattern of 2^128 entries is never made
+pattern_of_level_7 : (t : Levels) → IsGood t → (i : ℕ) → i < count t 7 → length (pattern t 7 i) ≡ 2 ^ 128
+pattern_of_level_7 t g i h = pattern_full t g 7 i h
 
 four_have_its_parts : HasPatterns four (sub 1 (0 ∷ 0 ∷ 0 ∷ 1 ∷ []))
 unfolding pattern sub cut_into

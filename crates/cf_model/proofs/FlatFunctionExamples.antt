@@ -1,6 +1,8 @@
-use Rattle.std.proofs.Common.{◌≡◌, ◌^◌, ◌-◌, pos, negsuc, true, false, [], ◌∷◌, Some, None, refl, arith, rules}
+use Rattle.std.proofs.Common.{List, Bool, length, ◌≡◌, ◌^◌, ◌-◌, pos, negsuc, true, false, [], ◌∷◌, Some, None, refl, arith, rules}
+use Rattle.std.specs.Prelude.{length, if◌then◌else◌}
 use Rattle.std.specs.Ordering.{int_eq}
-use Rattle.cf_model.specs.Assignments.{number_of, all_bits}
+use Rattle.cf_model.proofs.FlatFunctionLaws.{tabulated-full, tabulated-value}
+use Rattle.cf_model.specs.Assignments.{number_of, bit_at, all_bits}
 use Rattle.cf_model.specs.Values.{Fits, fits, fitting, and_then}
 use Rattle.cf_model.specs.FlatFunctions.{points, IsAssignment, FlatFunction, IsFlatFunction, value_at, tabulated, variable, IsLeast, first_passing}
 
@@ -87,6 +89,13 @@ variable_1 = refl
 variable_0 : variable 1 0 ≡ record { level = 1; values = pos 0 ∷ pos 0 ∷ pos 1 ∷ pos 1 ∷ [] }
 unfolding all_bits
 variable_0 = refl
+
+-- a flat function of level 7: its list of 2^128 values is never made
+length_at_level_7 : length (variable 7 127).values ≡ 2 ^ 128
+length_at_level_7 = tabulated-full 7 (λ bits. if bit_at bits 127 then pos 1 else pos 0)
+
+value_at_level_7 : (bits : List Bool) → length bits ≡ 128 → value_at (variable 7 127) bits ≡ Some (if bit_at bits 127 then pos 1 else pos 0)
+value_at_level_7 bits h = tabulated-value 7 (λ bits. if bit_at bits 127 then pos 1 else pos 0) bits h
 
 first_5 : first_passing (int_eq (pos 5)) five_at_10 ≡ Some (true ∷ false ∷ [])
 first_5 = refl

@@ -18,3 +18,8 @@ pub mod MatrixLaws
 pub mod MatrixExamples
 pub mod TermLaws
 pub mod TermExamples
+pub mod PointwiseExamples
+pub mod PairSumLaws
+pub mod PairSumExamples
+pub mod FunctionLaws
+pub mod FunctionExamples

@@ -73,6 +73,10 @@ transpose_of_unit : map (transpose (unit 0 1)) (all_bits 2) ≡ map (unit 1 0) (
 unfolding all_bits
 transpose_of_unit = refl
 
+-- row 10 and column 00 for row 00 and column 10: the entry at 0100, and not at 0010, the halves exchanged
+transpose_at_1000 : transpose numbers (true ∷ false ∷ false ∷ false ∷ []) ≡ pos 4
+transpose_at_1000 = refl
+
 identity_of_level_1 : map identity (all_bits 2) ≡ pos 1 ∷ pos 0 ∷ pos 0 ∷ pos 1 ∷ []
 unfolding all_bits
 identity_of_level_1 = refl

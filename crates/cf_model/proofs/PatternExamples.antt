@@ -1,5 +1,7 @@
-use Rattle.std.proofs.Common.{◌≡◌, pos, true, false, [], ◌∷◌, refl}
+use Rattle.std.proofs.Common.{ℕ, List, length, ◌≡◌, pos, true, false, [], ◌∷◌, refl}
+use Rattle.std.specs.Prelude.{length, ◌^◌}
 use Rattle.cf_model.specs.Assignments.{all_bits}
+use Rattle.cf_model.proofs.PatternLaws.{length-a_pattern}
 use Rattle.cf_model.specs.FlatFunctions.{variable}
 use Rattle.cf_model.specs.Patterns.{Pattern, pattern_of, same_ranks, same_pattern, cut_into, rows, distinct_rows, a_pattern, b_patterns, return_lists, sub, subs, size_at, sizes, node_work, work_size}
 
@@ -114,6 +116,10 @@ sizes_twice = refl
 sizes_variable_5 : sizes (pattern_of (variable 3 5) ∷ []) ≡ 2 ∷ 2 ∷ 2 ∷ 1 ∷ 0 ∷ 0 ∷ 0 ∷ 0 ∷ []
 unfolding all_bits sub cut_into
 sizes_variable_5 = refl
+
+-- a pattern of level 7: its 2^64 rows are never made
+a_pattern_of_level_7 : (p : List ℕ) → length (a_pattern 6 p) ≡ 2 ^ 64
+a_pattern_of_level_7 p = length-a_pattern 6 p
 
 node_work_01 : node_work 0 (0 ∷ 1 ∷ []) ≡ 1
 node_work_01 = refl

@@ -5,11 +5,28 @@ use Rattle.std.proofs.lemmas.List.{take-append-drop, length-take-le, length-drop
 use Rattle.std.proofs.lemmas.Slice.Eq.{bytes_eq-Decides}
 use Rattle.cf_model.specs.Renumbering.{width, Grows, IsCanon, rgs, distinct}
 use Rattle.cf_model.specs.FlatFunctions.{points}
-use Rattle.cf_model.specs.Patterns.{same_ranks, cut_into, rows, distinct_rows, a_pattern, b_patterns, return_lists}
+use Rattle.cf_model.specs.Patterns.{same_ranks, cut_into, rows, distinct_rows, a_pattern, b_patterns, return_lists, sub}
 use Rattle.cf_model.proofs.RenumberingLaws.{nat_decides, canon_of, canon_tells, rgs_grows, length-rgs}
 
 pub ranks_decide : (p q : List ℕ) → Decides (same_ranks p q) (p ≡ q)
 ranks_decide p q = bytes_eq-Decides p q
+
+-- the equations of `cut_into` and `sub`, which stay closed
+pub cut_into-none : (n : ℕ) (p : List ℕ) → cut_into 0 n p ≡ []
+unfolding cut_into
+cut_into-none n p = refl
+
+pub cut_into-more : (k n : ℕ) (p : List ℕ) → cut_into (suc k) n p ≡ take n p ∷ cut_into k n (drop n p)
+unfolding cut_into
+cut_into-more k n p = refl
+
+pub sub-base : (p : List ℕ) → sub 0 p ≡ record { level = 0; ranks = p } ∷ []
+unfolding sub
+sub-base p = refl
+
+pub sub-above : (level : ℕ) (p : List ℕ) → sub (suc level) p ≡ record { level = suc level; ranks = p } ∷ sub level (a_pattern level p) ++ flat_map (sub level) (b_patterns level p)
+unfolding sub
+sub-above level p = refl
 
 -- the pieces of a list, one after another, are the list
 pub join_cut : (k n : ℕ) (p : List ℕ) → length p ≡ k * n → flat_map (λ r. r) (cut_into k n p) ≡ p

@@ -48,6 +48,10 @@ differ_7_5 (suc (suc i)) j x hi hj = cc
 not_differ_5_5 : AllDiffer {A = ℕ} (5 ∷ 5 ∷ []) → ⊥
 not_differ_5_5 d = omega (arith, d 0 1 5 refl refl)
 
+-- neighbours differ, and the list doesn't
+not_differ_5_7_5 : AllDiffer {A = ℕ} (5 ∷ 7 ∷ 5 ∷ []) → ⊥
+not_differ_5_7_5 d = omega (arith, d 0 2 5 refl refl)
+
 new_6 : IsNew {A = ℕ} (7 ∷ 5 ∷ []) 6
 new_6 zero h = omega (arith, same_Some 7 6 h)
 new_6 (suc zero) h = omega (arith, same_Some 5 6 h)
@@ -71,6 +75,13 @@ note_new = refl
 
 rgs_on_seen : rgs_on nat_eq (7 ∷ []) (5 ∷ 7 ∷ []) ≡ 1 ∷ 0 ∷ []
 rgs_on_seen = refl
+
+rgs_on_seen_none : rgs_on nat_eq (7 ∷ 5 ∷ []) [] ≡ []
+rgs_on_seen_none = refl
+
+-- what was seen comes first, read or not
+distinct_on_unread : distinct_on nat_eq (7 ∷ 5 ∷ []) [] ≡ 7 ∷ 5 ∷ []
+distinct_on_unread = refl
 
 distinct_on_seen : distinct_on nat_eq (7 ∷ []) (5 ∷ 7 ∷ []) ≡ 7 ∷ 5 ∷ []
 distinct_on_seen = refl

@@ -2,7 +2,7 @@ use Rattle.std.proofs.Common.{◌≡◌, ◌^◌, ◌-◌, ℤ, pos, negsuc, tru
 use Rattle.cf_model.specs.Terms.{is_true, truth, value1, value2, joined, folded_on, folded, chosen, only, term, terms}
 use Rattle.cf_model.specs.declared.terms.Word1.TheVariants.{Not, Neg}
 use Rattle.cf_model.specs.declared.terms.Word2.TheVariants.{And, Or, Xor, Plus, Minus, Times, Min, Max, Eq, Lt}
-use Rattle.cf_model.specs.declared.terms.Term.{Term, X, Y, Z, Num, One, Fold, Ite, end_of-Term}
+use Rattle.cf_model.specs.declared.terms.Term.{Term, X, Y, Z, Num, One, Fold, Ite, end_of-Term, more_of-Term}
 
 -- the ends of the range
 abbrev greatest : ℤ
@@ -139,6 +139,10 @@ clamp_none = refl
 ite_of_not : term (Ite (One Not X) Y Z) (pos 0) (pos 5) (pos 6) ≡ Some (pos 5)
 unfolding term terms Rattle.cf_model.specs.declared.terms.Term.TheBlock.hidden-the_row-Term-1 denote.Hole.Carrier.hidden
 ite_of_not = refl
+
+terms_of_two : terms (more_of-Term X (more_of-Term Y end_of-Term)) (pos 1) (pos 2) (pos 3) ≡ Some (pos 1) ∷ Some (pos 2) ∷ []
+unfolding term terms
+terms_of_two = refl
 
 terms_of_none : terms end_of-Term (pos 1) (pos 2) (pos 3) ≡ []
 unfolding terms

@@ -16,16 +16,19 @@ pub record Assignment : Type 0 where
   pub len : ℕ
   pub number : ℕ
 
+-- the bits of such a word
 abbrev pub bits : Assignment → List Bool
 bits a = bits_of a.len a.number
 
--- bits as digits of a text
+-- a bit as a digit of a text, `0` or `1`
 abbrev pub digit_of : Bool → ℕ
 digit_of bit = if bit then 49 else 48
 
+-- bits as the digits of a text
 abbrev pub digits_of : List Bool → List ℕ
 digits_of bits = map digit_of bits
 
+-- whether each byte of a text is `0` or `1`
 abbrev pub are_digits : List ℕ → Bool
 are_digits text = list_all (λ b. b == 48 || b == 49) text
 
@@ -34,15 +37,15 @@ abbrev pub bits_of_text : List ℕ → Option (List Bool)
 bits_of_text text =
     if nat_le 1 (length text) && nat_le (length text) 128 && are_digits text then Some (map (λ b. b == 49) text) else None
 
--- the first half of the variables, which the A-callee of a grouping reads
+-- the first half of an assignment, which the callee of a grouping's A-connection reads
 abbrev pub first_half : List Bool → List Bool
 first_half bits = take (length bits / 2) bits
 
--- the second half of the variables, which the B-callee reads
+-- the second half, which the callees of its B-connections read
 abbrev pub second_half : List Bool → List Bool
 second_half bits = drop (length bits / 2) bits
 
--- A row index and a column index as one assignment: row bit 0, column bit 0, row bit 1, and so on.
+-- A row index and a column index of equal length as one assignment: row bit 0, column bit 0, row bit 1, and so on.
 abbrev pub weave : List Bool → List Bool → List Bool
 weave [] col = []
 weave (r ∷ row) [] = []
@@ -60,6 +63,7 @@ column_of [] = []
 column_of (r ∷ []) = []
 column_of (r ∷ c ∷ more) = c ∷ column_of more
 
+-- the row index and the column index that an assignment weaves
 abbrev pub unweave : List Bool → List Bool × List Bool
 unweave bits = (row_of bits, column_of bits)
 
@@ -71,11 +75,12 @@ bit_at bits i = slice_index_or bits i false
 abbrev pub with_bit : List Bool → ℕ → Bool → List Bool
 with_bit bits i b = slice_set bits i b
 
--- assignments of one level are ordered by their numbers
+-- the order of assignments of one level: by their numbers
 abbrev pub is_less : List Bool → List Bool → Bool
 is_less xs ys = nat_lt (number_of xs) (number_of ys)
 
--- Lists of bits by the first place at which they differ, 0 before 1.
+-- The lexicographic order: at the first place at which the lists differ, the first one has 0 and the second one 1; a list
+-- comes before the lists that it begins.
 abbrev pub IsLexBefore : List Bool → List Bool → Type 0
 IsLexBefore xs [] = ⊥
 IsLexBefore [] (y ∷ ys) = Unit {0}

@@ -1,5 +1,4 @@
-use Rattle.std.specs.Prelude.{◌≡◌, ℕ, zero, suc, ◌<◌, ◌≤◌, Bool, List, [], ◌∷◌, ◌++◌, slice_set, slice_get, map, length, Option, option_and_then, slice_index_or as get_or, flat_map}
-use Rattle.cf_model.specs.Assignments.{number_of}
+use Rattle.std.specs.Prelude.{◌≡◌, ℕ, zero, suc, ◌<◌, ◌≤◌, List, [], ◌∷◌, ◌++◌, slice_set, map, length, slice_index_or as get_or, flat_map}
 use Rattle.cf_model.specs.Renumbering.{width, Grows, IsApart}
 use Rattle.cf_model.specs.Patterns.{Pattern}
 
@@ -19,9 +18,11 @@ pub record Node : Type 0 where
 abbrev pub Levels : Type 0
 Levels = List (List Node)
 
+-- what is read past the end of a list of B-connections; no law rests on it
 abbrev pub no_connection : Connection
 no_connection = record { callee = 0; returns = [] }
 
+-- what is read past the end of a level; no law rests on it
 abbrev pub no_node : Node
 no_node = record { a_callee = 0; connections = [] }
 
@@ -33,6 +34,7 @@ exit_at b i = get_or b.returns i 0
 abbrev pub connection_at : List Connection → ℕ → Connection
 connection_at bs j = get_or bs j no_connection
 
+-- the nodes of a level
 abbrev pub nodes : Levels → ℕ → List Node
 nodes t level = get_or t level []
 
@@ -53,7 +55,8 @@ row patterns b = map (exit_at b) (patterns b.callee)
 abbrev pub spell : (ℕ → List ℕ) → Node → List ℕ
 spell patterns n = flat_map (λ j. row patterns (connection_at n.connections j)) (patterns n.a_callee)
 
--- The pattern of grouping i of a level: the exit that it has at each assignment, in order.
+-- The pattern of grouping i of a level: the exit to which each assignment leads, in order of assignments. The A-callee
+-- leads the first half to a middle vertex, whose B-callee leads the second half to an exit.
 unfoldable pub pattern : Levels → ℕ → ℕ → List ℕ
 pattern t zero zero = 0 ∷ 0 ∷ []
 pattern t zero (suc i) = 0 ∷ 1 ∷ []
@@ -63,7 +66,8 @@ pattern t (suc level) i = spell (pattern t level) (node t (suc level) i)
 abbrev pub all_returns : List Connection → List ℕ
 all_returns bs = flat_map (λ b. b.returns) bs
 
--- how many exits grouping i of a level has
+-- how many exits (exit vertices) grouping i of a level has: 1 for DONT_CARE, 2 for FORK, and above level 0 the numbers
+-- that the return tuples give out
 abbrev pub exits : Levels → ℕ → ℕ → ℕ
 exits t zero zero = 1
 exits t zero (suc i) = 2
@@ -101,11 +105,6 @@ pub record Extends (t u : Levels) : Type 0 where
 -- the table with one more node at the end of a level
 abbrev pub with_node : Levels → ℕ → Node → Levels
 with_node t level n = slice_set t level (nodes t level ++ n ∷ [])
-
--- A function as the package keeps it (a CFLOBDD): a grouping and the value of each of its exits. Its value at an
--- assignment is that of the exit which its pattern has there.
-abbrev pub function_value : {A : Type 0} → List ℕ → List A → List Bool → Option A
-function_value ranks labels bits = option_and_then (slice_get labels) (slice_get ranks (number_of bits))
 
 -- A grouping of the table has the pattern.
 abbrev pub HasPattern : Levels → Pattern → Type 0

@@ -16,17 +16,17 @@ pub record FlatFunction : Type 0 where
   pub level : ℕ
   pub values : List ℤ
 
--- The level is 0 to 7, there is a value for each assignment, and each fits.
+-- A level with a list is a flat function: the level is 0 to 7, there is a value for each assignment, and each fits.
 pub record IsFlatFunction (f : FlatFunction) : Type 0 where
   pub level_in : f.level ≤ 7
   pub full : length f.values ≡ points f.level
   pub fit : All Fits f.values
 
--- the value at an assignment
+-- the value at an assignment, which stands at the place of its number
 abbrev pub value_at : FlatFunction → List Bool → Option ℤ
 value_at f bits = slice_get f.values (number_of bits)
 
--- The flat function of a level that has these values.
+-- the flat function of a level whose value at each assignment is given
 abbrev pub tabulated : ℕ → (List Bool → ℤ) → FlatFunction
 tabulated level value = record { level = level; values = map value (all_bits (2 ^ level)) }
 

@@ -1,7 +1,9 @@
-use Rattle.std.specs.Prelude.{◌≡◌, ◌≢◌, ℕ, suc, ◌<◌, List, length, map, nat_eq, slice_get, Some}
-use Rattle.cf_model.specs.Renumbering.{rgs, IsCanon}
+use Rattle.std.specs.Prelude.{ℤ, ◌≡◌, ◌≢◌, ℕ, suc, ◌<◌, List, length, map, nat_eq, slice_get, Some}
+use Rattle.std.specs.Ordering.{int_eq}
+use Rattle.cf_model.specs.Renumbering.{rgs, distinct, IsCanon}
 use Rattle.cf_model.specs.FlatFunctions.{points}
 use Rattle.cf_model.specs.Patterns.{a_pattern, b_patterns, return_lists, sub}
+use Rattle.cf_model.specs.Functions.{IsFunction, function_of}
 use Rattle.cf_model.specs.Diagrams.{Levels, Node, count, node, pattern, exits, IsGoodNode, IsGood, Extends, with_node, HasPatterns}
 
 -- A list has one canon: its ranks and its labels are determined.
@@ -62,3 +64,14 @@ AppendingKeepsGood =
 -- A table that extends a good one has the old patterns at the old places.
 abbrev pub ExtendingKeepsPatterns : Type 0
 ExtendingKeepsPatterns = (t u : Levels) → IsGood t → Extends t u → (level i : ℕ) → i < count t level → pattern u level i ≡ pattern t level i
+
+-- In a good table two functions of one level with the same values everywhere are one grouping with one list of values.
+abbrev pub EqualFunctionsEqualGroupings : Type 0
+EqualFunctionsEqualGroupings =
+    (t : Levels) → IsGood t → (level i j : ℕ) (vs ws : List ℤ) → IsFunction t level i vs → IsFunction t level j ws → (function_of t level i vs).values ≡ (function_of t level j ws).values → (i ≡ j) × (vs ≡ ws)
+
+-- In a good table a grouping's pattern is that of each function on it, whose values are the different ones, in order.
+abbrev pub FunctionsHaveTheirPatterns : Type 0
+FunctionsHaveTheirPatterns =
+    (t : Levels) → IsGood t → (level i : ℕ) (values : List ℤ) → IsFunction t level i values
+    → (pattern t level i ≡ rgs int_eq (function_of t level i values).values) × (values ≡ distinct int_eq (function_of t level i values).values)

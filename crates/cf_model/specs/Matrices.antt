@@ -11,6 +11,7 @@ Matrix = List Bool → ℤ
 abbrev pub entry : Matrix → List Bool → List Bool → ℤ
 entry m row col = m (weave row col)
 
+-- the sum of whole numbers
 abbrev pub int_sum : List ℤ → ℤ
 int_sum [] = pos 0
 int_sum (z ∷ zs) = z +ℤ int_sum zs

@@ -4,8 +4,8 @@ use Rattle.std.specs.Cmp.Lexicographic.{pointwise}
 use Rattle.cf_model.specs.Renumbering.{rgs, distinct}
 use Rattle.cf_model.specs.FlatFunctions.{FlatFunction, points}
 
--- A pattern: a level, and the rank of each value by first appearance, in order of assignments. It says at which
--- assignments a function has equal values, and not which.
+-- A pattern: a level, and for each assignment in order the rank by first appearance of the value there. It says at which
+-- assignments a function has equal values, and not which: it is what a proto-CFLOBDD stands for, its exits being the ranks.
 pub record Pattern : Type 0 where
   pub level : ℕ
   pub ranks : List ℕ
@@ -18,6 +18,7 @@ pattern_of f = record { level = f.level; ranks = rgs int_eq f.values }
 abbrev pub same_ranks : List ℕ → List ℕ → Bool
 same_ranks p q = pointwise nat_eq p q
 
+-- whether two patterns are equal, level and ranks
 abbrev pub same_pattern : Pattern → Pattern → Bool
 same_pattern p q = p.level == q.level && same_ranks p.ranks q.ranks
 

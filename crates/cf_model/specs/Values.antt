@@ -5,7 +5,7 @@ use mir.Syntax.{w128}
 abbrev pub Fits : ℤ → Type 0
 Fits z = FitsSigned w128 z
 
--- the test of it
+-- whether it fits, as a test
 abbrev pub fits : ℤ → Bool
 fits z = not (int_lt z (negsuc (2 ^ 127 - 1))) && int_lt z (pos (2 ^ 127))
 

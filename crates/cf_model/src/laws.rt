@@ -15,6 +15,8 @@ ghost use Rattle.cf_model.specs.Laws.{
   AppendingKeepsPatterns,
   AppendingKeepsGood,
   ExtendingKeepsPatterns,
+  EqualFunctionsEqualGroupings,
+  FunctionsHaveTheirPatterns,
 };
 
 /// A list has one canon.
@@ -56,4 +58,11 @@ pub fn appending_keeps_patterns()
     ensures patterns { AppendingKeepsPatterns }
     ensures extended { ExtendingKeepsPatterns }
     ensures good { AppendingKeepsGood }
+{}
+
+/// In a good table equal functions are one grouping with one list of values, and a grouping's
+/// pattern is that of each function on it.
+pub fn equal_functions_equal_groupings()
+    ensures groupings { EqualFunctionsEqualGroupings }
+    ensures patterns { FunctionsHaveTheirPatterns }
 {}

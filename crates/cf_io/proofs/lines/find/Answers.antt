@@ -3,7 +3,7 @@ use Rattle.std.proofs.lemmas.Bool.{true≢false}
 use Rattle.cf_reference.specs.Lines.{fit}
 use Rattle.cf_io.specs.Windows.{held, state}
 use Rattle.cf_io.proofs.WindowLemmas.{length_between}
-use Rattle.cf_io.proofs.FindLemmas.{splits_of, hands_of, cut_newline, first_newline, first_last, begins_long, begins_over}
+use Rattle.cf_io.proofs.FindLemmas.{splits_of, takes_of, hands_of, cut_newline, first_newline, first_last, begins_long, begins_over}
 use Rattle.cf_io.proofs.lines.find.Goals as goal
 
 pub returns-in-Some-clause-splits : goal.returns-in-Some-clause-splits
@@ -11,6 +11,12 @@ returns-in-Some-clause-splits g c = λ told.
     splits_of c.loop-i.window c.hand_out.new.window _ (g.S.Source.left c.loop-i.source) _ c.hand_out.result c.hand_out.ensures.hands
     (cut_newline c.in-Some.i (held c.loop-i.window) (rw c.deref.ensures.value at c.in-Some.ensures.within) (rw c.deref.ensures.value at c.in-Some.ensures.found))
     (c.loop-i.invariant.stream told)
+
+pub returns-in-Some-clause-takes : goal.returns-in-Some-clause-takes
+returns-in-Some-clause-takes g c = λ told.
+    takes_of (state c.args.window.now) c.loop-i.window c.hand_out.new.window _ _ _ _ _ c.hand_out.result c.hand_out.ensures.hands
+    (cut_newline c.in-Some.i (held c.loop-i.window) (rw c.deref.ensures.value at c.in-Some.ensures.within) (rw c.deref.ensures.value at c.in-Some.ensures.found))
+    (c.loop-i.invariant.comes told)
 
 pub returns-in-Some-clause-hands : goal.returns-in-Some-clause-hands
 returns-in-Some-clause-hands g c = λ told attached. (

@@ -1,0 +1,20 @@
+#!/usr/bin/env bash
+# Counts the instructions of the workloads of cf_bench under callgrind, making the script included.
+set -eu
+cd "$(dirname "${BASH_SOURCE[0]}")/../crates/cf_bench"
+words=$(tr '\n' ' ' <args)
+log=$(mktemp)
+trap 'rm -f "$log" "$log.out"' EXIT
+# shellcheck disable=SC2086
+rt run -- $words </dev/null >"$log" 2>&1 || { cat "$log"; exit 1; }
+
+instructions() {
+    valgrind --tool=callgrind --callgrind-out-file="$log.out" out/cf_bench "$@" 2>&1 >/dev/null |
+        sed -n 's/.*Collected : \([0-9]*\).*/\1/p'
+}
+
+base=$(instructions)
+for workload in "values 100000" "names 1000" "line 4096" "line 8192" "line 16384" "line 65536"; do
+    # shellcheck disable=SC2086
+    echo "$workload: $(($(instructions $workload) - base))"
+done

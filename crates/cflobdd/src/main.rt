@@ -1,0 +1,32 @@
+// The program: a script from standard input, replies to standard output, and an exit status.
+#![tactic(auto)]
+
+use cf_io::{HostSink, HostSource, MemFiles};
+use cf_top::run;
+use std::env;
+use std::process::ExitCode;
+use std::rt::Env;
+
+/// The exit status where the words can't be fetched.
+const NO_WORDS: u8 = 7;
+
+/// The words after the program's name, or nothing if they can't be fetched.
+fn words_of(rt: &(impl Env + AllocGlobal)) -> Option<Vec<String>> {
+    let mut words = Vec::new(rt.alloc());
+    for word in env::args(rt).ok()?.skip(1) {
+        words.push(word).ok()?;
+    }
+    Some(words)
+}
+
+fn main(rt: HostRuntime) -> ExitCode {
+    let Some(words) = words_of(&rt) else {
+        return ExitCode::from(NO_WORDS);
+    };
+    let alloc = rt.alloc();
+    let mut script = HostSource::new(rt.stdin());
+    let mut files = MemFiles::new(Vec::new(alloc), 1, Vec::new(alloc));
+    let mut out = HostSink::new(rt.stdout());
+    let status = run(alloc, &words, &mut script, &mut files, &mut out);
+    ExitCode::from(status.code())
+}

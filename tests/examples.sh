@@ -1,0 +1,25 @@
+#!/usr/bin/env bash
+# Runs each script of examples/ on the built program, and compares what it writes and its status.
+# NAME.cfl is the script, NAME.out what has to be written, and NAME.status the status where it isn't 0.
+set -u
+cd "$(dirname "${BASH_SOURCE[0]}")/.." || exit 1
+passed=0
+failed=0
+answer=$(mktemp)
+trap 'rm -f "$answer"' EXIT
+for script in examples/*.cfl; do
+    name=${script%.cfl}
+    wanted=0
+    if [ -f "$name.status" ]; then wanted=$(cat "$name.status"); fi
+    ./cflobdd run <"$script" >"$answer"
+    status=$?
+    if [ "$status" = "$wanted" ] && cmp -s "$answer" "$name.out"; then
+        passed=$((passed + 1))
+    else
+        failed=$((failed + 1))
+        echo "$script: status $status (wanted $wanted), and wrote:"
+        head -n 20 "$answer"
+    fi
+done
+echo "$passed passed, $failed failed"
+[ "$passed" -gt 0 ] && [ "$failed" -eq 0 ]
