@@ -1,8 +1,6 @@
 use Rattle.std.proofs.Common.{◌≡◌, ℕ, zero, suc, ◌<◌, ◌≤◌, ◌+◌, List, [], ◌∷◌, ◌++◌, map, refl, sym, ◌∙◌, ap, subst, length, take, drop, get_or, arith, length-append, nat_eq, ◌-◌, Some, Option}
 use Rattle.std.proofs.lemmas.List.{length-map, map-append, take_more, append-nil, append_assoc, map_push, length-take-le}
 use Rattle.std.proofs.lemmas.List.Concat.{flat_map_single}
-use Rattle.std.proofs.lemmas.Bool.Decides.{nat_tests}
-use Rattle.std.specs.Bool.{Decides}
 use Rattle.std.specs.List.{flat_map, slice_get, All}
 use Rattle.std.specs.declared.vec.Vec.{Vec}
 use Rattle.cf_model.specs.Renumbering.{width, Grows, IsCanon, rgs}

@@ -1,7 +1,6 @@
 use Rattle.std.proofs.Common.{◌≡◌, ℕ, suc, ◌<◌, ◌+◌, List, [], ◌∷◌, map, refl, sym, ◌∙◌, ap, subst, length, get_or, arith, Some, Result, Ok, Err, IfOk, add-one}
 use Rattle.std.proofs.lemmas.List.{length-map, get_or-map}
 use Rattle.std.proofs.lemmas.Option.{slice_get-get_or, slice_get_within, get_or_from_slice_get}
-use Rattle.std.specs.List.{slice_get}
 use Rattle.cf_model.specs.Renumbering.{width, Grows, IsApart, IsCanon, AllDiffer}
 use Rattle.cf_model.proofs.RenumberingLaws.{canon_length, map_map}
 use Rattle.cf_model.specs.Diagrams.{Levels, Node, Connection, no_connection, exit_at, connection_at, count, node, row, spell, pattern, exits, IsGoodConnection, IsGoodNode, IsGood, Extends}

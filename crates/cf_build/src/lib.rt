@@ -79,9 +79,10 @@ mod tests {
     fn of_four<T: Label>(
         alloc: Global,
         table: &mut Table,
-        labels: [T; 4],
+        labels: &[T],
     ) -> Result<(Gid, Vec<T>), NoMemory>
-        requires { IsGood table.old.levels }
+        requires good { IsGood table.old.levels }
+        requires four { length labels.now ≡ 4 }
         ensures { IsGood table.new.levels }
     {
         let low = Vec::from_slice(alloc, &labels[..2])?;
@@ -93,7 +94,7 @@ mod tests {
     fn labels_and_classes(rt: HostRuntime) -> Result<(), Fail> {
         let alloc = rt.alloc();
         let mut table = Table::new(alloc)?;
-        let (third, labels) = of_four(alloc, &mut table, [5_u64, 5, 7, 5])?;
+        let (third, labels) = of_four(alloc, &mut table, &[5_u64, 5, 7, 5])?;
         assert_eq!(rt; labels.as_slice(), [5, 7].as_slice());
         assert!(rt; table.owns(third) && third.level == 1);
         assert_eq!(rt; table.a_callee(third), FORK);
@@ -105,16 +106,16 @@ mod tests {
         assert_eq!(rt; table.tuple(conns[1].ret), [1, 0].as_slice());
 
         let pairs = [(0_u64, 0_u64), (0, 1), (1, 0), (1, 1)];
-        let (whole, different) = of_four(alloc, &mut table, pairs)?;
+        let (whole, different) = of_four(alloc, &mut table, &pairs)?;
         assert_eq!(rt; different.as_slice(), pairs.as_slice());
         assert!(rt; table.owns(whole) && table.exits(whole) == 4);
         assert_eq!(rt; reduce(alloc, &mut table, whole, &[4, 4, 9, 4])?, third);
 
-        let (same, values) = of_four(alloc, &mut table, [1_i128, 1, -1, 1])?;
+        let (same, values) = of_four(alloc, &mut table, &[1_i128, 1, -1, 1])?;
         assert_eq!(rt; same, third);
         assert_eq!(rt; values.as_slice(), [1, -1].as_slice());
         let triples = [(0_u64, 0_u64, 0_u64), (0, 0, 0), (0, 0, 1), (0, 0, 0)];
-        let (same, different) = of_four(alloc, &mut table, triples)?;
+        let (same, different) = of_four(alloc, &mut table, &triples)?;
         assert_eq!(rt; same, third);
         assert_eq!(rt; different.as_slice(), [(0, 0, 0), (0, 0, 1)].as_slice());
         Ok(())
