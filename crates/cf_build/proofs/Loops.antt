@@ -25,12 +25,12 @@ Under-right : (k : ℕ) (xs ys : List ℕ) → Under k (xs ++ ys) → Under k ys
 Under-right k [] ys u = u
 Under-right k (x ∷ xs) ys u = Under-right k xs ys u.1
 
-returned_under : (k : ℕ) (bs : List Connection) → Under k (all_returns bs) → (j : ℕ) → j < length bs → Under k (connection_at bs j).returns
+pub returned_under : (k : ℕ) (bs : List Connection) → Under k (all_returns bs) → (j : ℕ) → j < length bs → Under k (connection_at bs j).returns
 returned_under k [] u j h = absurd (omega (arith, h))
 returned_under k (b ∷ bs) u zero h = Under-left k b.returns (all_returns bs) u
 returned_under k (b ∷ bs) u (suc j) h = returned_under k bs (Under-right k b.returns (all_returns bs) u) j (omega (arith, h))
 
-Under-at : (k : ℕ) (xs : List ℕ) → Under k xs → (m d : ℕ) → m < length xs → get_or xs m d < k
+pub Under-at : (k : ℕ) (xs : List ℕ) → Under k xs → (m d : ℕ) → m < length xs → get_or xs m d < k
 Under-at k [] u m d h = absurd (omega (arith, h))
 Under-at k (x ∷ xs) u zero d h = u.0
 Under-at k (x ∷ xs) u (suc m) d h = Under-at k xs u.1 m d (omega (arith, h))

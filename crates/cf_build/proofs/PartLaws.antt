@@ -106,7 +106,7 @@ join_added t s u v l tuples all bs classes a at gs gu x y room own ca ar aa c i 
 contains_here : {A : Type 0} (x y : A) (ys : List A) → y ≡ x → Contains (y ∷ ys) x
 contains_here x y ys e = (0, omega arith, e)
 
-contains_word : {A X : Type 0} (x : A) (f : X → List A) (ys : List X) (m : ℕ) (d : X) → m < length ys → Contains (f (get_or ys m d)) x → Contains (flat_map f ys) x
+pub contains_word : {A X : Type 0} (x : A) (f : X → List A) (ys : List X) (m : ℕ) (d : X) → m < length ys → Contains (f (get_or ys m d)) x → Contains (flat_map f ys) x
 contains_word x f [] m d h w = absurd (omega (arith, h))
 contains_word x f (y ∷ ys) zero d h w = Contains-append_left (f y) (flat_map f ys) x w
 contains_word x f (y ∷ ys) (suc m) d h w = Contains-append_right (f y) (flat_map f ys) x (contains_word x f ys m d (omega (arith, h)) w)
