@@ -1,0 +1,6 @@
+pub mod Words
+pub mod Joins
+pub mod Turns
+pub mod Loops
+pub mod Numbers
+pub mod PartLaws

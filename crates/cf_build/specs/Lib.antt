@@ -1,0 +1,4 @@
+pub mod Keys
+pub mod Assembling
+pub mod Joining
+pub mod Parts

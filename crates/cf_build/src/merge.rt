@@ -1,0 +1,166 @@
+//! Merging of exits, and joining of rows into a grouping: the two call each other one level down.
+
+ghost use Rattle.std.specs.Prelude.{◌≡◌, ◌<◌, ◌≤◌, ◌+◌, ◌↔◌, ℕ, suc, length, map, All, IfOk, IsTrue, slice_index_or};
+ghost use Rattle.cf_model.specs.Renumbering.{Grows};
+ghost use Rattle.cf_model.specs.Diagrams.{connection_at, count, exits, pattern, row, spell, IsGood, Extends};
+ghost use Rattle.cf_tuple.specs.Books.{Lengthens};
+ghost use Rattle.cf_table.specs.Groupings.{Owns, node_of, exits_of, pattern_of};
+ghost use Rattle.cf_build.specs.Assembling.{classed, Stands};
+ghost use Rattle.cf_build.specs.Joining.{IsLooseConnection, IsLooseNode, returning, row_connection, loose_node, classed_connection, IsThin, AreThin};
+ghost use Rattle.cf_build.specs.Parts.{AddsParts, AddsPartsOf};
+
+use super::label::canon_of;
+use cf_table::{BConn, DONT_CARE, Gid, Table};
+use cf_tuple::NoMemory;
+use std::alloc::Global;
+
+fn classed_exits(alloc: Global, returns: &[u64], classes: &[u64]) -> Result<Vec<u64>, NoMemory>
+    requires within { All (λ i. i < length classes.now) returns.now }
+    ensures { IfOk result (λ v. v.items ≡ classed classes.now returns.now) }
+{
+    let mut labels = Vec::new(alloc);
+    for i in 0..returns.len() {
+        labels.push(classes[returns[i] as usize])?;
+    }
+    Ok(labels)
+}
+
+/// The B-connections of a grouping, with each exit replaced by its class.
+fn classed_rows(
+    alloc: Global,
+    table: &Table,
+    g: Gid,
+    classes: &[u64],
+) -> Result<Vec<(Gid, Vec<u64>)>, NoMemory>
+    requires level { 0 < g.level }
+    requires owned { Owns table.now g }
+    requires good { IsGood table.now.levels }
+    requires entries { length classes.now ≡ exits_of table.now g }
+    ensures rows { IfOk result (λ v. map row_connection v.items ≡ map (classed_connection classes.now) (node_of table.now g).connections) }
+    ensures levels { IfOk result (λ v. All (λ r. r.0.level + 1 ≡ g.level) v.items) }
+{
+    let mut rows = Vec::new(alloc);
+    let conns = table.b_connections(g);
+    for i in 0..conns.len() {
+        let conn = conns[i];
+        let labels = classed_exits(alloc, table.tuple(conn.ret), classes)?;
+        rows.push((conn.to, labels))?;
+    }
+    Ok(rows)
+}
+
+/// Whether each exit is its own class.
+fn is_rising(classes: &[u64]) -> bool
+    ensures { IsTrue result ↔ ((i : ℕ) → i < length classes.now → slice_index_or classes.now i 0 ≡ i) }
+{
+    for i in 0..classes.len() {
+        if classes[i] != i as u64 {
+            return false;
+        }
+    }
+    true
+}
+
+/// The grouping with each exit replaced by its class. The classes are numbered by first
+/// appearance.
+#[cycle(merge)]
+pub(crate) fn merge(
+    alloc: Global,
+    table: &mut Table,
+    g: Gid,
+    classes: &[u64],
+) -> Result<Gid, NoMemory>
+    requires level { g.level ≤ 7 }
+    requires owned { Owns table.old g }
+    requires good { IsGood table.old.levels }
+    requires entries { length classes.now ≡ exits_of table.old g }
+    requires grows { Grows 0 classes.now }
+    ensures merged { IfOk result (λ h. Stands table.new.levels h g.level (classed classes.now (pattern_of table.old g))) }
+    ensures added { IfOk result (λ h. AddsParts table.old.levels table.new.levels h.level h.at) }
+    ensures good { IsGood table.new.levels }
+    ensures extends { Extends table.old.levels table.new.levels }
+    ensures longer { Lengthens table.old.tuples table.new.tuples }
+{
+    if is_rising(classes) {
+        return Ok(g);
+    }
+    if g.level == 0 {
+        // The two exits of FORK.
+        return Ok(DONT_CARE);
+    }
+    let a = table.a_callee(g);
+    let rows = classed_rows(alloc, table, g, classes)?;
+    join(alloc, table, a, rows.as_slice())
+}
+
+/// The B-connection with a row's labels, which may repeat.
+#[cycle(merge)]
+fn thin(alloc: Global, table: &mut Table, g: Gid, labels: &[u64]) -> Result<BConn, NoMemory>
+    requires level { g.level ≤ 6 }
+    requires owned { Owns table.old g }
+    requires good { IsGood table.old.levels }
+    requires entries { length labels.now ≡ exits_of table.old g }
+    ensures thin { IfOk result (λ b. IsThin table.new g.level (row (pattern table.old.levels g.level) (returning g.at labels.now)) labels.now b) }
+    ensures added { IfOk result (λ b. AddsParts table.old.levels table.new.levels g.level b.«to».at) }
+    ensures good { IsGood table.new.levels }
+    ensures extends { Extends table.old.levels table.new.levels }
+    ensures longer { Lengthens table.old.tuples table.new.tuples }
+{
+    let (ranks, different) = canon_of(alloc, labels)?;
+    let to = merge(alloc, table, g, ranks.as_slice())?;
+    let ret = table.intern_tuple(different.as_slice())?;
+    Ok(BConn { to, ret })
+}
+
+/// The same for each row.
+#[cycle(merge)]
+fn thin_rows(
+    alloc: Global,
+    table: &mut Table,
+    level: u8,
+    rows: &[(Gid, Vec<u64>)],
+) -> Result<Vec<BConn>, NoMemory>
+    requires level { level ≤ 6 }
+    requires levels { All (λ r. r.0.level ≡ level) rows.now }
+    requires good { IsGood table.old.levels }
+    requires connections { (j : ℕ) → j < length (map row_connection rows.now) → IsLooseConnection (count table.old.levels level) (exits table.old.levels level) (connection_at (map row_connection rows.now) j) }
+    ensures thin { IfOk result (λ v. AreThin table.new level (pattern table.old.levels level) (map row_connection rows.now) v.items) }
+    ensures added { IfOk result (λ v. AddsPartsOf table.old.levels table.new.levels level v.items) }
+    ensures good { IsGood table.new.levels }
+    ensures extends { Extends table.old.levels table.new.levels }
+    ensures longer { Lengthens table.old.tuples table.new.tuples }
+{
+    let mut conns = Vec::new(alloc);
+    for i in 0..rows.len() {
+        let row = &rows[i];
+        let conn = thin(alloc, table, row.0, row.1.as_slice())?;
+        conns.push(conn)?;
+    }
+    Ok(conns)
+}
+
+/// The grouping that an A-callee and rows spell. The labels number by first reach; within a row
+/// they may repeat, and rows may be equal.
+#[cycle(merge)]
+pub(crate) fn join(
+    alloc: Global,
+    table: &mut Table,
+    a: Gid,
+    rows: &[(Gid, Vec<u64>)],
+) -> Result<Gid, NoMemory>
+    requires level { a.level ≤ 6 }
+    requires levels { All (λ r. r.0.level ≡ a.level) rows.now }
+    requires good { IsGood table.old.levels }
+    requires loose { IsLooseNode (count table.old.levels a.level) (exits table.old.levels a.level) (loose_node a.at rows.now) }
+    ensures joined { IfOk result (λ g. Stands table.new.levels g (suc a.level) (spell (pattern table.old.levels a.level) (loose_node a.at rows.now))) }
+    ensures added { IfOk result (λ g. AddsParts table.old.levels table.new.levels g.level g.at) }
+    ensures good { IsGood table.new.levels }
+    ensures extends { Extends table.old.levels table.new.levels }
+    ensures longer { Lengthens table.old.tuples table.new.tuples }
+{
+    let conns = thin_rows(alloc, table, a.level, rows)?;
+    let (classes, bs) = canon_of(alloc, conns.as_slice())?;
+    let callee = merge(alloc, table, a, classes.as_slice())?;
+    table.law();
+    table.intern(callee, bs.as_slice())
+}

@@ -1,0 +1,4 @@
+pub mod Zips
+pub mod Faithful
+pub mod Rows
+pub mod Pairs

@@ -1,0 +1,10 @@
+use Rattle.cf_model.proofs.Callees.{sub_in}
+use Rattle.cf_model.proofs.Growing.{pattern_kept}
+use Rattle.cf_build.proofs.Turns.{if_ok}
+use Rattle.cf_pair.proofs.pair.Goals as goal
+
+pub returns-clause-parts : goal.returns-clause-parts
+returns-clause-parts g c = if_ok c.pair_groupings.result _ _ c.pair_groupings.ensures.paired (λ r s. sub_in c.pair_groupings.new.table.levels c.pair_groupings.ensures.good r.0.level r.0.at s.there)
+
+pub returns-clause-patterns : goal.returns-clause-patterns
+returns-clause-patterns g c = pattern_kept c.args.table.now.levels c.pair_groupings.new.table.levels c.law.ensures.good c.pair_groupings.ensures.extends

@@ -1,0 +1,207 @@
+use Rattle.std.proofs.Common.{rules, ◌≡◌, ℕ, ◌<◌, ◌≤◌, ◌+◌, ◌*◌, ◌-◌, List, [], length, map, sym, ap, ◌∙◌, subst, arith, get_or}
+use Rattle.std.specs.List.{zip, All}
+use Rattle.cf_model.specs.Renumbering.{IsCanon}
+use Rattle.cf_model.specs.Diagrams.{connection_at, count, node, row, pattern}
+use Rattle.cf_model.specs.Patterns.{sub}
+use Rattle.cf_model.proofs.Canonicity.{level_holds}
+use Rattle.cf_model.proofs.Growing.{exits_kept}
+use Rattle.cf_tuple.proofs.BookLaws.{kept_at}
+use Rattle.cf_table.specs.Groupings.{connection_of}
+use Rattle.cf_table.specs.Goodness.{IsGoodOver}
+use Rattle.cf_build.specs.Assembling.{IsRow, HasCanon, AddsOnly}
+use Rattle.cf_build.proofs.Turns.{if_ok2}
+use Rattle.cf_pair.specs.Products.{returned2, pair_word, Lists, ListEach, AddsOnlyIn}
+use Rattle.cf_pair.proofs.Zips.{Both}
+use Rattle.cf_pair.proofs.Rows.{listed_more}
+use Rattle.cf_pair.proofs.Pairs.{read_good, read_row, pairs_in, pair_lists, middles_canon, middles_in, level_with, PairCall, assembly}
+use Rattle.cf_pair.proofs.pairing.+pair.Goals as goal
+
+pub pair_row-returned_pairs-requires : goal.pair_row-returned_pairs-requires
+pair_row-returned_pairs-requires g t c =
+    let old = c.args.table.now in
+    let new = c.pair_groupings.new.table in
+    let l = c.args.b.«to».level in
+    let b = connection_of old.tuples c.args.b in
+    let d = connection_of old.tuples c.args.c in
+    let h = c.in_ok-to.ensures.paired in
+    let e = c.in_ok-to.«to» in
+    let canon : IsCanon (zip (pattern old.levels l b.callee) (pattern old.levels l d.callee)) (pattern new.levels e.level e.at) c.as_slice.result.now =
+    subst (λ (v : List _). IsCanon (zip (pattern old.levels l b.callee) (pattern old.levels l d.callee)) (pattern new.levels e.level e.at) v) (sym c.as_slice.ensures.value)
+    (subst (λ (m : ℕ). IsCanon (zip (pattern old.levels l b.callee) (pattern old.levels m d.callee)) (pattern new.levels e.level e.at) c.in_ok-to.pairs.items) c.requires.second.over.level h.canon) in
+    let eb : c.tuple.result.now ≡ b.returns = c.tuple.ensures ∙ kept_at old.tuples new.tuples c.in_ok-to.ensures.longer c.args.b.ret.at [] c.requires.first.over.tuple in
+    let ed : c.tuple-2.result.now ≡ d.returns = c.tuple-2.ensures ∙ kept_at old.tuples new.tuples c.in_ok-to.ensures.longer c.args.c.ret.at [] c.requires.second.over.tuple in
+    record {
+      within = λ j x lj. (let r = pairs_in old.levels c.requires.good l b d c.requires.first.good c.requires.second.good (pattern new.levels e.level e.at) c.as_slice.result.now canon j x lj in
+          (omega (arith, r.0, ap length eb), omega (arith, r.1, ap length ed)));
+    }
+
+pub pair_row-returns-clause-row : goal.pair_row-returns-clause-row
+pair_row-returns-clause-row g t c =
+    let old = c.args.table.now in
+    let new = c.pair_groupings.new.table in
+    let l = c.args.b.«to».level in
+    let b = connection_of old.tuples c.args.b in
+    let d = connection_of old.tuples c.args.c in
+    let e = c.in_ok-to.«to» in
+    let ps = c.in_ok-to.pairs.items in
+    let h : HasCanon new.levels e l (zip (pattern old.levels l b.callee) (pattern old.levels l d.callee)) ps = subst (λ (m : ℕ). HasCanon new.levels e l (zip (pattern old.levels l b.callee) (pattern old.levels m d.callee)) ps) c.requires.second.over.level c.in_ok-to.ensures.paired in
+    let eb : c.tuple.result.now ≡ b.returns = c.tuple.ensures ∙ kept_at old.tuples new.tuples c.in_ok-to.ensures.longer c.args.b.ret.at [] c.requires.first.over.tuple in
+    let ed : c.tuple-2.result.now ≡ d.returns = c.tuple-2.ensures ∙ kept_at old.tuples new.tuples c.in_ok-to.ensures.longer c.args.c.ret.at [] c.requires.second.over.tuple in
+    let said : c.in_ok-labels.labels.items ≡ map (returned2 b.returns d.returns) ps = c.in_ok-labels.ensures ∙ ap (λ (v : List (ℕ × ℕ)). map (returned2 c.tuple.result.now c.tuple-2.result.now) v) c.as_slice.ensures.value
+    ∙ ap (λ (v : List ℕ). map (returned2 v c.tuple-2.result.now) ps) eb ∙ ap (λ (v : List ℕ). map (returned2 b.returns v) ps) ed in
+    pair_lists old.levels new.levels c.requires.good c.in_ok-to.ensures.good l b d c.requires.first.good c.requires.second.good e ps c.in_ok-labels.labels h said
+
+pub pair_row-returns-clause-added : goal.pair_row-returns-clause-added
+pair_row-returns-clause-added g t c =
+    let old = c.args.table.now.levels in
+    let new = c.pair_groupings.new.table.levels in
+    let e = c.in_ok-to.«to» in
+    subst (λ (m : ℕ). AddsOnly old new (sub m (pattern new m e.at))) c.in_ok-to.ensures.paired.level c.in_ok-to.ensures.added
+
+pub pair_rows-pair_row-requires : goal.pair_rows-pair_row-requires
+pair_rows-pair_row-requires g t c κs within =
+    let old = c.args.table.now in
+    let now = c.loop-i.table in
+    let x = c.loop-i.invariant.extends in
+    let k = c.args.g.level in
+    let l = k - 1 in
+    let m = get_or c.args.middles.now c.loop-i.i (0, 0) in
+    let in_ = c.requires.middles c.loop-i.i (0, 0) c.loop-i-test.true in
+    let b = c.b_of-b.result in
+    let d = c.b_of-c.result in
+    let gb : IsGoodOver now l b = read_good old now c.loop-i.invariant.good x k l c.args.g.at m.0 (omega (arith, c.requires.above)) c.requires.first in_.0 b c.b_of-b.ensures.level c.b_of-b.ensures.connection c.b_of-b.ensures.tuple in
+    let gd : IsGoodOver now l d = read_good old now c.loop-i.invariant.good x c.args.h.level l c.args.h.at m.1 (omega (arith, c.requires.above, c.requires.levels)) c.requires.second in_.1 d c.b_of-c.ensures.level c.b_of-c.ensures.connection c.b_of-c.ensures.tuple in
+    let lev : b.«to».level ≡ l = gb.over.level in
+    let six : b.«to».level ≤ 6 = omega (arith, lev, c.requires.level) in
+    let fb : IsGoodOver now b.«to».level b = subst (λ (i : ℕ). IsGoodOver now i b) (sym lev) gb in
+    let fd : IsGoodOver now b.«to».level d = subst (λ (i : ℕ). IsGoodOver now i d) (sym lev) gd in
+    let falls : 3 * b.«to».level + 1 < 3 * k - 1 = omega (arith, lev, c.requires.above) in
+    search rules
+
+pub pair_rows-loop-i-preserved : goal.pair_rows-loop-i-preserved
+pair_rows-loop-i-preserved g t c =
+    let old = c.args.table.now in
+    let now = c.loop-i.table in
+    let new = c.pair_row.new.table in
+    let x = c.loop-i.invariant.extends in
+    let k = c.args.g.level in
+    let l = k - 1 in
+    let m = get_or c.args.middles.now c.loop-i.i (0, 0) in
+    let in_ = c.requires.middles c.loop-i.i (0, 0) c.loop-i-test.true in
+    let b = c.b_of-b.result in
+    let d = c.b_of-c.result in
+    let below : l + 1 ≡ k = omega (arith, c.requires.above) in
+    let below_h : l + 1 ≡ c.args.h.level = omega (arith, c.requires.above, c.requires.levels) in
+    let lev : b.«to».level ≡ l = omega (arith, c.b_of-b.ensures.level) in
+    let eb = read_row old now c.requires.good x k l c.args.g.at m.0 below c.requires.first in_.0 b c.b_of-b.ensures.connection in
+    let ed = read_row old now c.requires.good x c.args.h.level l c.args.h.at m.1 below_h c.requires.second in_.1 d c.b_of-c.ensures.connection in
+    let r = c.in_ok-row.row in
+    let lists : Lists new.levels l (zip (row (pattern now.levels l) (connection_of now.tuples b)) (row (pattern now.levels l) (connection_of now.tuples d))) r =
+    subst (λ (i : ℕ). Lists new.levels i (zip (row (pattern now.levels i) (connection_of now.tuples b)) (row (pattern now.levels i) (connection_of now.tuples d))) r) lev c.in_ok-row.ensures.row in
+    let wanted : Lists new.levels l (pair_word (pattern old.levels l) (node old.levels k c.args.g.at).connections (node old.levels c.args.h.level c.args.h.at).connections m) r =
+    subst (λ (v : List (ℕ × ℕ)). Lists new.levels l v r) (ap (λ (v : List ℕ). zip v (row (pattern now.levels l) (connection_of now.tuples d))) eb ∙ ap (λ (v : List ℕ). zip (row (pattern old.levels l) (connection_at (node old.levels k c.args.g.at).connections m.0)) v) ed) lists in
+    let added : AddsOnly now.levels new.levels (sub l (pattern new.levels l r.0.at)) = subst (λ (i : ℕ). AddsOnly now.levels new.levels (sub i (pattern new.levels i r.0.at))) lev c.in_ok-row.ensures.added in
+    listed_more old now new l (λ i. pair_word (pattern old.levels l) (node old.levels k c.args.g.at).connections (node old.levels c.args.h.level c.args.h.at).connections (get_or c.args.middles.now i (0, 0))) c.loop-i.i c.loop-i.rows.items c.push.new.self.items r c.loop-i.invariant wanted added
+    c.in_ok-row.ensures.good c.in_ok-row.ensures.extends c.in_ok-row.ensures.longer c.in_ok-push.ensures.items
+
+pub pair_groupings-pair_rows-requires : goal.pair_groupings-pair_rows-requires
+pair_groupings-pair_rows-requires g t c κs within =
+    let old = c.args.table.now.levels in
+    let new = c.pair_groupings.new.table.levels in
+    let k = c.args.g.level in
+    let l = k - 1 in
+    let a = c.a_of-a.result in
+    let b = c.a_of-b.result in
+    let e = c.in_ok-callee.callee in
+    let ms = c.as_slice.result.now in
+    let x = c.in_ok-callee.ensures.extends in
+    let positive : 1 ≤ k = omega (arith, c.if-g-eq0.false) in
+    let h = level_with old new e a b l zip c.in_ok-callee.middles.items c.in_ok-callee.ensures.paired (omega (arith, c.a_of-a.ensures.level)) (omega (arith, c.a_of-b.ensures.level, c.requires.levels)) in
+    let canon : IsCanon (zip (pattern old l a.at) (pattern old l b.at)) (pattern new e.level e.at) ms = subst (λ (v : List (ℕ × ℕ)). IsCanon (zip (pattern old l a.at) (pattern old l b.at)) (pattern new e.level e.at) v) (sym c.as_slice.ensures.value) h.canon in
+    let h0 : c.args.h.at < count old k = subst (λ (i : ℕ). c.args.h.at < count old i) c.requires.levels c.requires.second in
+    let b_is : b.at ≡ (node old k c.args.h.at).a_callee = subst (λ (i : ℕ). b.at ≡ (node old i c.args.h.at).a_callee) c.requires.levels c.a_of-b.ensures.callee in
+    let below : l + 1 ≡ k = omega (arith, positive) in
+    let gu : c.args.g.at < count new k = omega (arith, c.requires.first, x.more k) in
+    let hk : c.args.h.at < count new k = omega (arith, h0, x.more k) in
+    let hu : c.args.h.at < count new c.args.h.level = omega (arith, c.requires.second, x.more c.args.h.level) in
+    let mc = middles_canon old new c.requires.good x k l c.args.g.at c.args.h.at a.at b.at (pattern new e.level e.at) ms below c.requires.first h0 c.a_of-a.ensures.callee b_is canon in
+    let range = middles_in new c.in_ok-callee.ensures.good k l c.args.g.at c.args.h.at (pattern new e.level e.at) ms below gu hk mc in
+    let all : All (λ m. (m.0 < length (node new k c.args.g.at).connections) × (m.1 < length (node new c.args.h.level c.args.h.at).connections)) ms =
+    subst (λ (i : ℕ). All (Both (length (node new k c.args.g.at).connections) (length (node new i c.args.h.at).connections)) ms) (sym c.requires.levels) range in
+    let falls : 3 * k - 1 < 3 * k = omega (arith, positive) in
+    search rules
+
+pub pair_groupings-assemble-requires-clause-middles : goal.pair_groupings-assemble-requires-clause-middles
+pair_groupings-assemble-requires-clause-middles g t c =
+    let new = c.pair_groupings.new.table.levels in
+    let e = c.in_ok-callee.callee in
+    let p = c.in_ok-callee.ensures.paired in
+    ap length c.as_slice-2.ensures.value ∙ c.in_ok-rows.ensures.rows.long ∙ ap length c.as_slice.ensures.value ∙ sym p.canon.reached
+    ∙ (level_holds new c.in_ok-callee.ensures.good e.level).reaches e.at p.there ∙ sym (exits_kept new c.pair_rows.new.table.levels c.in_ok-rows.ensures.extends e.level e.at p.there)
+
+pub pair_groupings-assemble-requires-clause-rows : goal.pair_groupings-assemble-requires-clause-rows
+pair_groupings-assemble-requires-clause-rows g t c k d lk =
+    let v = c.pair_rows.new.table.levels in
+    let q = c.as_slice-2.ensures.value in
+    let w = c.in_ok-rows.ensures.rows in
+    let r = (w.each k d (omega (arith, lk, ap length q, w.long))).is_row in
+    let lev : c.args.g.level - 1 ≡ c.in_ok-callee.callee.level = omega (arith, c.in_ok-callee.ensures.paired.level, c.a_of-a.ensures.level) in
+    subst (λ (l : ℕ). IsRow v l (get_or c.as_slice-2.result.now k d)) lev (subst (λ (x : _). IsRow v (c.args.g.level - 1) (get_or x k d)) (sym q) r)
+
+pub pair_groupings-returns-clause-paired : goal.pair_groupings-returns-clause-paired
+pair_groupings-returns-clause-paired g t c =
+    let old = c.args.table.now.levels in
+    let new = c.pair_groupings.new.table.levels in
+    let v = c.pair_rows.new.table.levels in
+    let ms = c.as_slice.result.now in
+    let rows = c.as_slice-2.result.now in
+    let l = c.args.g.level - 1 in
+    let w : PairCall old new v c.args.g c.args.h c.a_of-a.result c.a_of-b.result c.in_ok-callee.callee ms rows = record {
+      good = c.requires.good;
+      positive = c.if-g-eq0.false;
+      levels = c.requires.levels;
+      first = c.requires.first;
+      second = c.requires.second;
+      a_level = c.a_of-a.ensures.level;
+      a_is = c.a_of-a.ensures.callee;
+      b_level = c.a_of-b.ensures.level;
+      b_is = c.a_of-b.ensures.callee;
+      good1 = c.in_ok-callee.ensures.good;
+      extends1 = c.in_ok-callee.ensures.extends;
+      canon = subst (λ (x : List (ℕ × ℕ)). HasCanon new c.in_ok-callee.callee c.a_of-a.result.level (zip (pattern old c.a_of-a.result.level c.a_of-a.result.at) (pattern old c.a_of-b.result.level c.a_of-b.result.at)) x) (sym c.as_slice.ensures.value) c.in_ok-callee.ensures.paired;
+      good2 = c.in_ok-rows.ensures.good;
+      extends2 = c.in_ok-rows.ensures.extends;
+      listed = subst (λ (x : _). ListEach v l (λ i. pair_word (pattern new l) (node new c.args.g.level c.args.g.at).connections (node new c.args.h.level c.args.h.at).connections (get_or ms i (0, 0))) (length ms) x) (sym c.as_slice-2.ensures.value) c.in_ok-rows.ensures.rows;
+    } in
+    let added : AddsOnlyIn new v l rows = subst (λ (x : _). AddsOnlyIn new v l x) (sym c.as_slice-2.ensures.value) c.in_ok-rows.ensures.added in
+    if_ok2 c.assemble.result _ _ _ c.assemble.ensures.assembled c.assemble.ensures.added
+    (λ r s x. (assembly old new v c.assemble.new.table.levels c.args.g c.args.h c.a_of-a.result c.a_of-b.result c.in_ok-callee.callee ms rows r.0 r.1.items w c.assemble.ensures.good c.assemble.ensures.kept s c.in_ok-callee.ensures.added added x).0)
+
+pub pair_groupings-returns-clause-added : goal.pair_groupings-returns-clause-added
+pair_groupings-returns-clause-added g t c =
+    let old = c.args.table.now.levels in
+    let new = c.pair_groupings.new.table.levels in
+    let v = c.pair_rows.new.table.levels in
+    let ms = c.as_slice.result.now in
+    let rows = c.as_slice-2.result.now in
+    let l = c.args.g.level - 1 in
+    let w : PairCall old new v c.args.g c.args.h c.a_of-a.result c.a_of-b.result c.in_ok-callee.callee ms rows = record {
+      good = c.requires.good;
+      positive = c.if-g-eq0.false;
+      levels = c.requires.levels;
+      first = c.requires.first;
+      second = c.requires.second;
+      a_level = c.a_of-a.ensures.level;
+      a_is = c.a_of-a.ensures.callee;
+      b_level = c.a_of-b.ensures.level;
+      b_is = c.a_of-b.ensures.callee;
+      good1 = c.in_ok-callee.ensures.good;
+      extends1 = c.in_ok-callee.ensures.extends;
+      canon = subst (λ (x : List (ℕ × ℕ)). HasCanon new c.in_ok-callee.callee c.a_of-a.result.level (zip (pattern old c.a_of-a.result.level c.a_of-a.result.at) (pattern old c.a_of-b.result.level c.a_of-b.result.at)) x) (sym c.as_slice.ensures.value) c.in_ok-callee.ensures.paired;
+      good2 = c.in_ok-rows.ensures.good;
+      extends2 = c.in_ok-rows.ensures.extends;
+      listed = subst (λ (x : _). ListEach v l (λ i. pair_word (pattern new l) (node new c.args.g.level c.args.g.at).connections (node new c.args.h.level c.args.h.at).connections (get_or ms i (0, 0))) (length ms) x) (sym c.as_slice-2.ensures.value) c.in_ok-rows.ensures.rows;
+    } in
+    let added : AddsOnlyIn new v l rows = subst (λ (x : _). AddsOnlyIn new v l x) (sym c.as_slice-2.ensures.value) c.in_ok-rows.ensures.added in
+    if_ok2 c.assemble.result _ _ _ c.assemble.ensures.assembled c.assemble.ensures.added
+    (λ r s x. (assembly old new v c.assemble.new.table.levels c.args.g c.args.h c.a_of-a.result c.a_of-b.result c.in_ok-callee.callee ms rows r.0 r.1.items w c.assemble.ensures.good c.assemble.ensures.kept s c.in_ok-callee.ensures.added added x).1)

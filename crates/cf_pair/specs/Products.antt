@@ -1,0 +1,59 @@
+use Rattle.std.specs.Prelude.{◌≡◌, ℕ, ◌≤◌, ◌<◌, List, [], map, length, Contains, slice_index_or as get_or}
+use Rattle.std.specs.List.{zip}
+use Rattle.std.specs.declared.vec.Vec.{Vec}
+use Rattle.cf_model.specs.Renumbering.{AllDiffer}
+use Rattle.cf_model.specs.Patterns.{sub}
+use Rattle.cf_model.specs.Diagrams.{Levels, Connection, count, connection_at, pattern, row, IsGood, Extends}
+use Rattle.cf_tuple.specs.Books.{Lengthens}
+use Rattle.cf_table.specs.declared.Gid.{Gid}
+use Rattle.cf_table.specs.Groupings.{Groupings}
+use Rattle.cf_build.specs.Assembling.{IsRow, row_of, row_labels}
+
+-- an entry beside a pair, as a triple
+abbrev pub triple_of : ℕ × (ℕ × ℕ) → ℕ × ℕ × ℕ
+triple_of t = (t.0, t.1.0, t.1.1)
+
+-- the triples of the entries of three lists, place by place, as `zip` gives the pairs of two
+abbrev pub zip3 : List ℕ → List ℕ → List ℕ → List (ℕ × ℕ × ℕ)
+zip3 xs ys zs = map triple_of (zip xs (zip ys zs))
+
+-- the outer exits to which a pair of exits returns, by two return tuples
+abbrev pub returned2 : List ℕ → List ℕ → ℕ × ℕ → ℕ × ℕ
+returned2 xs ys p = (get_or xs p.0 0, get_or ys p.1 0)
+
+-- the outer exits to which three exits return, by three return tuples
+abbrev pub returned3 : List ℕ → List ℕ → List ℕ → ℕ × ℕ × ℕ → ℕ × ℕ × ℕ
+returned3 xs ys zs t = (get_or xs t.0 0, get_or ys t.1 0, get_or zs t.2 0)
+
+-- the pairs of exits at a pair of middle vertices, over the assignments of the second half
+abbrev pub pair_word : (ℕ → List ℕ) → List Connection → List Connection → ℕ × ℕ → List (ℕ × ℕ)
+pair_word patterns bs cs m = zip (row patterns (connection_at bs m.0)) (row patterns (connection_at cs m.1))
+
+-- the triples of exits at three middle vertices, over the assignments of the second half
+abbrev pub triple_word : (ℕ → List ℕ) → List Connection → List Connection → List Connection → ℕ × ℕ × ℕ → List (ℕ × ℕ × ℕ)
+triple_word patterns bs cs ds m = zip3 (row patterns (connection_at bs m.0)) (row patterns (connection_at cs m.1)) (row patterns (connection_at ds m.2))
+
+-- A row over level l has these labels over the assignments of the second half, and no label twice.
+pub record Lists {A Z : Type 0} (t : Levels) (l : ℕ) (all : List A) (r : Gid × Vec A Z) : Type 0 where
+  pub is_row : IsRow t l r
+  pub labels : row_labels (pattern t l) (row_of r) ≡ all
+  pub differ : AllDiffer r.1.items
+
+-- There are `count` rows, and each has the labels that are wanted at its place.
+pub record ListEach {A Z : Type 0} (t : Levels) (l : ℕ) (wanted : ℕ → List A) (count : ℕ) (rows : List (Gid × Vec A Z)) : Type 0 where
+  pub long : length rows ≡ count
+  pub each : (i : ℕ) (d : Gid × Vec A Z) → i < count → Lists t l (wanted i) (get_or rows i d)
+
+-- Each grouping that the table has now and hadn't before has a pattern that one of the rows' groupings is made of.
+abbrev pub AddsOnlyIn : {A Z : Type 0} → Levels → Levels → ℕ → List (Gid × Vec A Z) → Type 0
+AddsOnlyIn before now l rows =
+    (k j : ℕ) → count before k ≤ j → j < count now k
+    → (m : ℕ) × (m < length rows) × Contains (sub l (pattern now l (get_or (map row_of rows) m (0, [])).0)) (record { level = k; ranks = pattern now k j })
+
+-- The first `done` rows list what is wanted, and the table has gained only what they are made of.
+pub record HasListed {A Z : Type 0} (before now : Groupings) (l : ℕ) (wanted : ℕ → List A) (done : ℕ) (rows : List (Gid × Vec A Z)) : Type 0 where
+  pub good : IsGood now.levels
+  pub extends : Extends before.levels now.levels
+  pub longer : Lengthens before.tuples now.tuples
+  pub listed : ListEach now.levels l wanted done rows
+  pub added : AddsOnlyIn before.levels now.levels l rows

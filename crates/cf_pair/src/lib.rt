@@ -1,0 +1,43 @@
+// Products: the grouping of the pairs, or of the triples, of the exits of groupings.
+#![tactic(auto)]
+
+mod pairing;
+
+ghost use Rattle.std.specs.Prelude.{◌≡◌, IfOk};
+ghost use Rattle.std.specs.List.{zip};
+ghost use Rattle.cf_model.specs.Patterns.{sub};
+ghost use Rattle.cf_model.specs.Diagrams.{IsGood, Extends, HasPatterns};
+ghost use Rattle.cf_tuple.specs.Books.{Lengthens};
+ghost use Rattle.cf_table.specs.Groupings.{Owns, pattern_of, KeepsPatterns};
+ghost use Rattle.cf_build.specs.Assembling.{HasCanon, AddsOnly};
+
+use cf_table::steps::Steps;
+use cf_table::{Gid, Table};
+use cf_tuple::NoMemory;
+use pairing::pair_groupings;
+use std::alloc::Global;
+use std::sync::ledger::Ledger;
+
+/// The grouping of the pairs of exits that g and h have at each assignment, and the different
+/// pairs in order of first appearance. Each view of g, h and what they are made of is a step.
+pub fn pair<L: Ledger>(
+    alloc: Global,
+    table: &mut Table,
+    g: Gid,
+    h: Gid,
+    steps: &mut Steps<L>,
+) -> Result<(Gid, Vec<(u64, u64)>), NoMemory>
+    requires first { Owns table.old g }
+    requires second { Owns table.old h }
+    requires level { g.level ≡ h.level }
+    ensures paired { IfOk result (λ r. HasCanon table.new.levels r.0 g.level (zip (pattern_of table.old g) (pattern_of table.old h)) r.1.items) }
+    ensures added { IfOk result (λ r. AddsOnly table.old.levels table.new.levels (sub r.0.level (pattern_of table.new r.0))) }
+    ensures parts { IfOk result (λ r. HasPatterns table.new.levels (sub r.0.level (pattern_of table.new r.0))) }
+    ensures good { IsGood table.new.levels }
+    ensures kept { Extends table.old.levels table.new.levels }
+    ensures patterns { KeepsPatterns table.old.levels table.new.levels }
+    ensures tuples { Lengthens table.old.tuples table.new.tuples }
+{
+    table.law();
+    pair_groupings(alloc, table, g, h, steps)
+}

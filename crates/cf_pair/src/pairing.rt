@@ -1,0 +1,152 @@
+//! The recursion of the pair product: level by level, and over pairs of middle vertices.
+
+ghost use Rattle.std.specs.Prelude.{◌≡◌, ◌<◌, ◌≤◌, ◌-◌, length, map, All, IfOk, slice_index_or};
+ghost use Rattle.std.specs.List.{zip};
+ghost use Rattle.cf_model.specs.Patterns.{sub};
+ghost use Rattle.cf_model.specs.Diagrams.{pattern, row, IsGood, Extends};
+ghost use Rattle.cf_tuple.specs.Books.{Lengthens};
+ghost use Rattle.cf_table.specs.Groupings.{Owns, node_of, pattern_of, connection_of};
+ghost use Rattle.cf_table.specs.Goodness.{IsGoodOver};
+ghost use Rattle.cf_build.specs.Assembling.{HasCanon, AddsOnly};
+ghost use Rattle.cf_pair.specs.Products.{returned2, pair_word, Lists, ListEach, AddsOnlyIn};
+
+use cf_build::assemble;
+use cf_table::steps::Steps;
+use cf_table::{BConn, DONT_CARE, FORK, Gid, Table};
+use cf_tuple::NoMemory;
+use std::alloc::Global;
+use std::sync::ledger::Ledger;
+
+/// At level 0 bit 0 leads to exit 0, and bit 1 to the last exit.
+fn pair_bases(
+    alloc: Global,
+    table: &Table,
+    g: Gid,
+    h: Gid,
+) -> Result<(Gid, Vec<(u64, u64)>), NoMemory>
+    requires level { g.level ≡ 0 }
+    requires levels { h.level ≡ 0 }
+    requires good { IsGood table.now.levels }
+    requires first { Owns table.now g }
+    requires second { Owns table.now h }
+    ensures { IfOk result (λ r. HasCanon table.now.levels r.0 0 (zip (pattern_of table.now g) (pattern_of table.now h)) r.1.items) }
+{
+    let last = (table.exits(g) - 1, table.exits(h) - 1);
+    let mut pairs = Vec::new(alloc);
+    pairs.push((0, 0))?;
+    if last == (0, 0) {
+        return Ok((DONT_CARE, pairs));
+    }
+    pairs.push(last)?;
+    Ok((FORK, pairs))
+}
+
+fn returned_pairs(
+    alloc: Global,
+    pairs: &[(u64, u64)],
+    left: &[u64],
+    right: &[u64],
+) -> Result<Vec<(u64, u64)>, NoMemory>
+    requires within { All (λ p. (p.0 < length left.now) × (p.1 < length right.now)) pairs.now }
+    ensures { IfOk result (λ v. v.items ≡ map (returned2 left.now right.now) pairs.now) }
+{
+    let mut returned = Vec::new(alloc);
+    for i in 0..pairs.len() {
+        let pair = pairs[i];
+        returned.push((left[pair.0 as usize], right[pair.1 as usize]))?;
+    }
+    Ok(returned)
+}
+
+/// The product of two groupings of one level.
+#[cycle(pair)]
+pub(crate) fn pair_groupings<L: Ledger>(
+    alloc: Global,
+    table: &mut Table,
+    g: Gid,
+    h: Gid,
+    steps: &mut Steps<L>,
+) -> Result<(Gid, Vec<(u64, u64)>), NoMemory>
+    requires level { g.level ≤ 7 }
+    requires levels { h.level ≡ g.level }
+    requires good { IsGood table.old.levels }
+    requires first { Owns table.old g }
+    requires second { Owns table.old h }
+    ensures paired { IfOk result (λ r. HasCanon table.new.levels r.0 g.level (zip (pattern_of table.old g) (pattern_of table.old h)) r.1.items) }
+    ensures added { IfOk result (λ r. AddsOnly table.old.levels table.new.levels (sub r.0.level (pattern_of table.new r.0))) }
+    ensures good { IsGood table.new.levels }
+    ensures extends { Extends table.old.levels table.new.levels }
+    ensures longer { Lengthens table.old.tuples table.new.tuples }
+{
+    if g.level == 0 {
+        return pair_bases(alloc, table, g, h);
+    }
+    let a = table.a_of(g, steps);
+    let b = table.a_of(h, steps);
+    let (callee, middles) = pair_groupings(alloc, table, a, b, steps)?;
+    let rows = pair_rows(alloc, table, g, h, middles.as_slice(), steps)?;
+    assemble(alloc, table, callee, rows.as_slice())
+}
+
+/// The row of a pair of middle vertices, by their B-connections.
+#[cycle(pair)]
+fn pair_row<L: Ledger>(
+    alloc: Global,
+    table: &mut Table,
+    b: BConn,
+    c: BConn,
+    steps: &mut Steps<L>,
+) -> Result<(Gid, Vec<(u64, u64)>), NoMemory>
+    requires level { b.«to».level ≤ 6 }
+    requires good { IsGood table.old.levels }
+    requires first { IsGoodOver table.old b.«to».level b }
+    requires second { IsGoodOver table.old b.«to».level c }
+    ensures row { IfOk result (λ r. Lists table.new.levels b.«to».level (zip (row (pattern table.old.levels b.«to».level) (connection_of table.old.tuples b)) (row (pattern table.old.levels b.«to».level) (connection_of table.old.tuples c))) r) }
+    ensures added { IfOk result (λ r. AddsOnly table.old.levels table.new.levels (sub b.«to».level (pattern table.new.levels b.«to».level r.0.at))) }
+    ensures good { IsGood table.new.levels }
+    ensures extends { Extends table.old.levels table.new.levels }
+    ensures longer { Lengthens table.old.tuples table.new.tuples }
+{
+    let (to, pairs) = pair_groupings(alloc, table, b.to, c.to, steps)?;
+    let labels = returned_pairs(
+        alloc,
+        pairs.as_slice(),
+        table.tuple(b.ret),
+        table.tuple(c.ret),
+    )?;
+    Ok((to, labels))
+}
+
+/// A row for each pair of middle vertices.
+#[cycle(pair)]
+fn pair_rows<L: Ledger>(
+    alloc: Global,
+    table: &mut Table,
+    g: Gid,
+    h: Gid,
+    middles: &[(u64, u64)],
+    steps: &mut Steps<L>,
+) -> Result<Vec<(Gid, Vec<(u64, u64)>)>, NoMemory>
+    requires above { 1 ≤ g.level }
+    requires level { g.level ≤ 7 }
+    requires levels { h.level ≡ g.level }
+    requires good { IsGood table.old.levels }
+    requires first { Owns table.old g }
+    requires second { Owns table.old h }
+    requires middles { All (λ m. (m.0 < length (node_of table.old g).connections) × (m.1 < length (node_of table.old h).connections)) middles.now }
+    ensures rows { IfOk result (λ v. ListEach table.new.levels (g.level - 1) (λ i. pair_word (pattern table.old.levels (g.level - 1)) (node_of table.old g).connections (node_of table.old h).connections (slice_index_or middles.now i (0, 0))) (length middles.now) v.items) }
+    ensures added { IfOk result (λ v. AddsOnlyIn table.old.levels table.new.levels (g.level - 1) v.items) }
+    ensures good { IsGood table.new.levels }
+    ensures extends { Extends table.old.levels table.new.levels }
+    ensures longer { Lengthens table.old.tuples table.new.tuples }
+{
+    let mut rows = Vec::new(alloc);
+    for i in 0..middles.len() {
+        let middle = middles[i];
+        let b = table.b_of(g, middle.0, steps);
+        let c = table.b_of(h, middle.1, steps);
+        let row = pair_row(alloc, table, b, c, steps)?;
+        rows.push(row)?;
+    }
+    Ok(rows)
+}
