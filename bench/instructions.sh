@@ -14,7 +14,8 @@ instructions() {
 }
 
 base=$(instructions)
-for workload in "values 100000" "names 1000" "line 4096" "line 8192" "line 16384" "line 65536"; do
+for workload in "values 100000" "names 1000" "line 4096" "line 8192" "line 16384" "line 65536" \
+    "pairs 8" "pairs 16" "pairs 32" "pairs 64" "pairs 128"; do
     # shellcheck disable=SC2086
     echo "$workload: $(($(instructions $workload) - base))"
 done

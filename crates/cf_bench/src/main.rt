@@ -1,32 +1,59 @@
-// Runs named workloads of given sizes, as `values 1000 line 4096`, and says how each run ended.
+// Runs named workloads of given sizes, as `values 1000 line 4096 pairs 8`, and says how each ended.
 #![tactic(auto)]
 
-mod workload;
+mod pairs;
+mod script;
+
+ghost use Rattle.std.specs.Prelude.{◌≤◌, IfSome};
 
 use cf_io::{MemFiles, MemSink, MemSource};
 use cf_top::run;
+use pairs::paired_projections;
+use script::Script;
+use std::marker::Brand;
+use std::sync::ledger::Blank;
 use std::{env, io};
-use workload::Workload;
 
-/// Runs a workload, and prints its name, its size, the status and how many bytes were written.
-fn measure(rt: &(impl Print + AllocGlobal), workload: &Workload) -> Result<(), io::Error> {
+/// Runs a script, and prints its name, its size, the status and how many bytes were written.
+fn measure_script(rt: &(impl Print + AllocGlobal), kind: &Script) -> io::Result<()> {
     let alloc = rt.alloc();
-    let script = workload.script(alloc)?;
+    let script = kind.script(alloc)?;
     let room = script.len();
     let words = vec![in alloc; String::from_str(alloc, "run")?]?;
-    let mut source = MemSource::new(script, workload.piece(), 0, Vec::new(alloc));
+    let mut source = MemSource::new(script, kind.piece(), 0, Vec::new(alloc));
     let mut files = MemFiles::new(Vec::new(alloc), 1, Vec::new(alloc));
     let mut sink = MemSink::new(alloc, room, room.max(1), Vec::new(alloc))?;
     let status = run(alloc, &words, &mut source, &mut files, &mut sink);
-    println!(rt; "{workload} {status:?} {}", sink.bytes().len())
+    println!(rt; "{kind} {status:?} {}", sink.bytes().len())
+}
+
+/// Pairs the projections of 2 ^ `level` variables, and prints how many groupings there are then.
+fn measure_pairs(rt: &(impl Print + AllocGlobal), level: u8) -> io::Result<()>
+    requires { level ≤ 7 }
+{
+    let groupings = paired_projections::<Brand>(rt.alloc(), level, Blank::new(1))?;
+    println!(rt; "pairs {} {groupings} groupings", 1u32 << level)
+}
+
+/// The level of so many variables, of which there are 1 to 128 and a power of two.
+fn level_of(variables: &str) -> Option<u8>
+    ensures { IfSome result (λ level. level ≤ 7) }
+{
+    let variables = variables.parse::<u8>().ok()?;
+    (0..8).find(|level| 1u8 << *level == variables)
 }
 
 fn main(rt: HostRuntime) -> io::Result<()> {
     let mut words = env::args(&rt)?.skip(1);
     while let (Some(name), Some(size)) = (words.next(), words.next()) {
-        match Workload::new(name.as_str(), size.as_str()) {
-            Some(workload) => measure(&rt, &workload)?,
-            None => println!(rt; "{name} {size} is no workload")?,
+        if name.as_str() == "pairs"
+            && let Some(level) = level_of(size.as_str())
+        {
+            measure_pairs(&rt, level)?;
+        } else if let Some(script) = Script::new(name.as_str(), size.as_str()) {
+            measure_script(&rt, &script)?;
+        } else {
+            println!(rt; "{name} {size} is no workload")?;
         }
     }
     Ok(())

@@ -16,5 +16,5 @@ loop-i-preserved c =
     let b = get_or c.b_connections-conns.result.now c.loop-i.i blank in (
       rows_more (connection_of c.args.table.now.tuples) c.args.classes.now c.loop-i.rows.items c.push.new.self.items (b.«to», c.in_ok-labels.labels) c.b_connections-conns.result.now c.loop-i.i blank c.loop-i.invariant.0 c.in_ok-push.ensures.items
           (ap (λ (r : List ℕ). returning b.«to».at r) (c.in_ok-labels.ensures ∙ ap (λ (r : List ℕ). classed c.args.classes.now r) c.tuple.ensures)) c.loop-i-test.true,
-      all_more (λ r. r.0.level + 1 ≡ c.args.g.level) c.loop-i.rows.items c.push.new.self.items (b.«to», c.in_ok-labels.labels) c.in_ok-push.ensures.items c.loop-i.invariant.1 (c.b_connections-conns.ensures.kept c.loop-i.i blank c.loop-i-test.true).0,
+      all_more (λ r. r.0.level + 1 ≡ c.args.g.level) c.loop-i.rows.items c.push.new.self.items (b.«to», c.in_ok-labels.labels) c.in_ok-push.ensures.items c.loop-i.invariant.1 (c.b_connections-conns.ensures.placed c.loop-i.i blank c.loop-i-test.true).0,
     )

@@ -3,9 +3,9 @@ ghost use Rattle.std.specs.Prelude.{◌≤◌};
 use std::alloc::{AllocError, Global};
 use std::fmt;
 
-/// A script of some size, and how it is handed in.
+/// The script of a workload, of some size.
 #[derive(Clone, Copy, Debug)]
-pub enum Workload {
+pub enum Script {
     /// So many lines that ask for the value of one name.
     Values(usize),
     /// So many names of 20 bytes, each asked for a hundred times.
@@ -14,13 +14,13 @@ pub enum Workload {
     Line(usize),
 }
 
-impl Workload {
-    pub fn new(name: &str, size: &str) -> Option<Workload> {
+impl Script {
+    pub fn new(name: &str, size: &str) -> Option<Script> {
         let size = size.parse::<usize>().ok()?;
         match name {
-            "values" => Some(Workload::Values(size)),
-            "names" => Some(Workload::Names(size)),
-            "line" => Some(Workload::Line(size)),
+            "values" => Some(Script::Values(size)),
+            "names" => Some(Script::Names(size)),
+            "line" => Some(Script::Line(size)),
             _ => None,
         }
     }
@@ -30,16 +30,16 @@ impl Workload {
         ensures { 1 ≤ result }
     {
         match self {
-            Workload::Values(_) | Workload::Names(_) => usize::MAX,
-            Workload::Line(_) => 1,
+            Script::Values(_) | Script::Names(_) => usize::MAX,
+            Script::Line(_) => 1,
         }
     }
 
     pub fn script(&self, alloc: Global) -> Result<Vec<u8>, AllocError> {
         match self {
-            Workload::Values(lines) => values(alloc, *lines),
-            Workload::Names(names) => asked(alloc, *names),
-            Workload::Line(bytes) => vec![in alloc; b'x'; *bytes],
+            Script::Values(lines) => values(alloc, *lines),
+            Script::Names(names) => asked(alloc, *names),
+            Script::Line(bytes) => vec![in alloc; b'x'; *bytes],
         }
     }
 }
@@ -69,12 +69,12 @@ fn asked(alloc: Global, names: usize) -> Result<Vec<u8>, AllocError> {
     Ok(script)
 }
 
-impl fmt::Display for Workload {
+impl fmt::Display for Script {
     fn fmt<W: fmt::Write>(&self, f: &mut fmt::Formatter<W>) -> fmt::Result {
         match self {
-            Workload::Values(lines) => write!(f, "values {lines}"),
-            Workload::Names(names) => write!(f, "names {names}"),
-            Workload::Line(bytes) => write!(f, "line {bytes}"),
+            Script::Values(lines) => write!(f, "values {lines}"),
+            Script::Names(names) => write!(f, "names {names}"),
+            Script::Line(bytes) => write!(f, "line {bytes}"),
         }
     }
 }
