@@ -1,12 +1,12 @@
-use Rattle.std.proofs.Common.{◌≡◌, ◌≢◌, ℕ, zero, suc, ◌<◌, ◌≤◌, ◌+◌, ◌-◌, List, [], ◌∷◌, ◌++◌, map, refl, sym, ◌∙◌, ap, subst, length, get_or, arith, Bool, true, false, ◌&&◌, nat_eq}
-use Rattle.std.specs.List.{flat_map, zip, All}
+use Rattle.std.proofs.Common.{◌≡◌, ◌≢◌, ℕ, suc, ◌<◌, ◌+◌, ◌-◌, List, [], ◌∷◌, map, refl, sym, ◌∙◌, ap, subst, length, get_or, arith, Bool, true, false, ◌&&◌, nat_eq}
+use Rattle.std.specs.List.{All}
 use Rattle.std.specs.declared.vec.Vec.{Vec}
 use Rattle.std.proofs.lemmas.List.{length-map}
 use Rattle.std.proofs.lemmas.Bool.{false≢true}
-use Rattle.cf_model.specs.Renumbering.{width, AllDiffer, IsApart, IsCanon}
+use Rattle.cf_model.specs.Renumbering.{AllDiffer, IsApart, IsCanon}
 use Rattle.cf_model.specs.FlatFunctions.{points}
 use Rattle.cf_model.specs.Patterns.{sub}
-use Rattle.cf_model.specs.Diagrams.{Levels, Node, Connection, exit_at, connection_at, count, node, row, spell, pattern, exits, IsGoodConnection, IsGoodNode, IsGood, Extends}
+use Rattle.cf_model.specs.Diagrams.{Levels, Connection, exit_at, connection_at, count, node, row, spell, pattern, exits, IsGoodConnection, IsGood, Extends}
 use Rattle.cf_model.proofs.Growth.{Under, Under-width}
 use Rattle.cf_model.proofs.RenumberingLaws.{nat_decides}
 use Rattle.cf_model.proofs.Canonicity.{level_holds, row_tells, row_points}
@@ -123,8 +123,8 @@ triple_words u gu k l f g h p ms e hf hg hh c =
     let lg = row_full u gu k l g e hg in
     let lh = row_full u gu k l h e hh in (
       λ j lj. (let r = range j none lj in
-      let m = get_or ms j none in
-      length_zip3_even (one m.0) (two m.1) (six m.2) (points l) (lf m.0 r.0) (lg m.1 r.1) (lh m.2 r.2)),
+          let m = get_or ms j none in
+          length_zip3_even (one m.0) (two m.1) (six m.2) (points l) (lf m.0 r.0) (lg m.1 r.1) (lh m.2 r.2)),
       λ i j hi hj q.
           (let x = get_or ms i none in
           let y = get_or ms j none in

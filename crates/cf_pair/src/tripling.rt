@@ -11,7 +11,7 @@ ghost use Rattle.cf_pair.specs.Products.{zip3, returned3, triple_word, Lists, Li
 
 use cf_build::assemble;
 use cf_table::steps::Steps;
-use cf_table::{BConn, Gid, Table, DONT_CARE, FORK};
+use cf_table::{BConn, DONT_CARE, FORK, Gid, Table};
 use cf_tuple::NoMemory;
 use std::alloc::Global;
 use std::sync::ledger::Ledger;

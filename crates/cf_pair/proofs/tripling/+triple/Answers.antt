@@ -1,5 +1,4 @@
-use Rattle.std.proofs.Common.{rules, ◌≡◌, ℕ, suc, ◌<◌, ◌≤◌, ◌+◌, ◌*◌, ◌-◌, List, [], length, map, sym, ap, ◌∙◌, subst, arith, get_or}
-use Rattle.std.specs.List.{All}
+use Rattle.std.proofs.Common.{rules, ◌≡◌, ℕ, ◌<◌, ◌≤◌, ◌+◌, ◌*◌, ◌-◌, List, [], length, map, sym, ap, ◌∙◌, subst, arith, get_or}
 use Rattle.cf_model.specs.Renumbering.{IsCanon}
 use Rattle.cf_model.specs.Patterns.{sub}
 use Rattle.cf_model.specs.Diagrams.{connection_at, count, node, row, pattern}
@@ -13,7 +12,7 @@ use Rattle.cf_build.proofs.Turns.{if_ok2}
 use Rattle.cf_pair.specs.Products.{zip3, returned3, triple_word, Lists, ListEach, AddsOnlyIn}
 use Rattle.cf_pair.proofs.Rows.{listed_more}
 use Rattle.cf_pair.proofs.Pairs.{read_good, read_row}
-use Rattle.cf_pair.proofs.Triples.{triples_in, triple_lists, level_with3, TripleCall, call_range, assembly3}
+use Rattle.cf_pair.proofs.Triples.{triples_in, triple_lists, TripleCall, call_range, assembly3}
 use Rattle.cf_pair.proofs.tripling.+triple.Goals as goal
 
 pub triple_row-returned_triples-requires : goal.triple_row-returned_triples-requires
