@@ -2,3 +2,4 @@ pub mod Zips
 pub mod Faithful
 pub mod Rows
 pub mod Pairs
+pub mod Triples

@@ -96,7 +96,7 @@ pub record Pairing {Z : Type 0} (t u v : Levels) (k l g h a b c : ℕ) (ms : Lis
   pub extends2 : Extends u v
   pub listed : ListEach v l (λ i. pair_word (pattern u l) (node u k g).connections (node u k h).connections (get_or ms i (0, 0))) (length ms) rows
 
-callee_kept : (t u : Levels) → IsGood t → Extends t u → (k l i a : ℕ) → l + 1 ≡ k → i < count t k → a ≡ (node t k i).a_callee → pattern t l a ≡ pattern u l (node u k i).a_callee
+pub callee_kept : (t u : Levels) → IsGood t → Extends t u → (k l i a : ℕ) → l + 1 ≡ k → i < count t k → a ≡ (node t k i).a_callee → pattern t l a ≡ pattern u l (node u k i).a_callee
 callee_kept t u g x k l i a e hi ae =
     ap (pattern t l) ae ∙ sym (pattern_kept t u g x l (node t k i).a_callee (good_node t g k l i e hi).callee_exists) ∙ ap (λ (n : Node). pattern u l n.a_callee) (sym (x.kept k i hi))
 
@@ -187,7 +187,7 @@ canon_two x y d = canon_new (x ∷ []) (0 ∷ []) (x ∷ []) y (canon_new [] [] 
     new d zero e = d (same_Some x y e)
     new d (suc k) e = cc
 
-and_true : (p q : Bool) → (p && q) ≡ true → (p ≡ true) × (q ≡ true)
+pub and_true : (p q : Bool) → (p && q) ≡ true → (p ≡ true) × (q ≡ true)
 and_true true q h = (refl, h)
 and_true false q h = absurd (false≢true h)
 

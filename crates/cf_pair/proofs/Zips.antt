@@ -5,9 +5,9 @@ use Rattle.std.proofs.lemmas.Option.{slice_get-get_or, slice_get_within, get_or_
 use Rattle.std.proofs.lemmas.Slice.Zip.{length-zip, get_or-zip, firsts-zip, seconds-zip}
 use Rattle.cf_model.specs.Renumbering.{AllDiffer, IsCanon}
 use Rattle.cf_model.proofs.Growth.{Under}
-use Rattle.cf_model.proofs.RenumberingLaws.{canon_length}
+use Rattle.cf_model.proofs.RenumberingLaws.{canon_length, map_map}
 use Rattle.cf_build.proofs.Words.{canon_reads}
-use Rattle.cf_build.proofs.Joins.{all_reached}
+use Rattle.cf_build.proofs.Joins.{all_reached, map_words, words_map}
 use Rattle.cf_build.proofs.Loops.{Under-at}
 use Rattle.cf_pair.specs.Products.{triple_of, zip3}
 
@@ -99,3 +99,38 @@ zip_tells xs us ys vs n a b c d e = (
   sym (firsts-zip xs ys (c ∙ sym a)) ∙ ap (map (λ (p : _). p.0)) e ∙ firsts-zip us vs (d ∙ sym b),
   sym (seconds-zip xs ys (c ∙ sym a)) ∙ ap (map (λ (p : _). p.1)) e ∙ seconds-zip us vs (d ∙ sym b),
 )
+
+-- three lists' words of one length are zipped word by word
+pub zip3_words : (f g h : ℕ → List ℕ) (n : ℕ) (p q r : List ℕ) → Even f n p → Even g n q → Even h n r → length p ≡ length q → length q ≡ length r
+    → zip3 (flat_map f p) (flat_map g q) (flat_map h r) ≡ flat_map (λ (t : ℕ × ℕ × ℕ). zip3 (f t.0) (g t.1) (h t.2)) (zip3 p q r)
+zip3_words f g h n p q r a b c d e =
+    let w : ℕ × ℕ → List (ℕ × ℕ) = λ s. zip (g s.0) (h s.1) in
+    let pairs : length p ≡ length (zip q r) = omega (arith, length-zip q r, d, e) in
+    ap (λ (v : List (ℕ × ℕ)). map triple_of (zip (flat_map f p) v)) (zip_words g h n q r b c e)
+    ∙ ap (map triple_of) (zip_words f w n p (zip q r) a (even_zip g h n q r b c) pairs)
+    ∙ map_words triple_of (λ (t : ℕ × (ℕ × ℕ)). zip (f t.0) (w t.1)) (zip p (zip q r))
+    ∙ sym (words_map (λ (t : ℕ × ℕ × ℕ). zip3 (f t.0) (g t.1) (h t.2)) triple_of (zip p (zip q r)))
+
+pub zip3_map : (f g h : ℕ → ℕ) (p q r : List ℕ) → zip3 (map f p) (map g q) (map h r) ≡ map (λ (t : ℕ × ℕ × ℕ). (f t.0, g t.1, h t.2)) (zip3 p q r)
+zip3_map f g h p q r =
+    ap (λ (v : List (ℕ × ℕ)). map triple_of (zip (map f p) v)) (zip_map g h q r)
+    ∙ ap (map triple_of) (zip_map f (λ (s : ℕ × ℕ). (g s.0, h s.1)) p (zip q r))
+    ∙ map_map triple_of (λ (t : ℕ × (ℕ × ℕ)). (f t.0, (g t.1.0, h t.1.1))) (zip p (zip q r))
+    ∙ sym (map_map (λ (t : ℕ × ℕ × ℕ). (f t.0, g t.1, h t.2)) triple_of (zip p (zip q r)))
+
+pub length_zip3_even : (xs ys zs : List ℕ) (n : ℕ) → length xs ≡ n → length ys ≡ n → length zs ≡ n → length (zip3 xs ys zs) ≡ n
+length_zip3_even xs ys zs n a b c = length-map (zip xs (zip ys zs)) triple_of ∙ length_zip_even xs (zip ys zs) n a (length_zip_even ys zs n b c)
+
+abbrev nested : ℕ × ℕ × ℕ → ℕ × (ℕ × ℕ)
+nested t = (t.0, (t.1, t.2))
+
+nested_back : (z : List (ℕ × (ℕ × ℕ))) → map nested (map triple_of z) ≡ z
+nested_back [] = refl
+nested_back (t ∷ z) = ap (λ (v : List (ℕ × (ℕ × ℕ))). t ∷ v) (nested_back z)
+
+-- lists of one length are told by their triples
+pub zip3_tells : (xs us ys vs zs ws : List ℕ) (n : ℕ) → length xs ≡ n → length us ≡ n → length ys ≡ n → length vs ≡ n → length zs ≡ n → length ws ≡ n → zip3 xs ys zs ≡ zip3 us vs ws → (xs ≡ us) × (ys ≡ vs) × (zs ≡ ws)
+zip3_tells xs us ys vs zs ws n a b c d e f q =
+    let outer = zip_tells xs us (zip ys zs) (zip vs ws) n a b (length_zip_even ys zs n c e) (length_zip_even vs ws n d f) (sym (nested_back (zip xs (zip ys zs))) ∙ ap (map nested) q ∙ nested_back (zip us (zip vs ws))) in
+    let inner = zip_tells ys vs zs ws n c d e f outer.1 in
+    (outer.0, inner.0, inner.1)

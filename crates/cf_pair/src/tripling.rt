@@ -1,0 +1,170 @@
+//! The recursion of the triple product, as that of the pair product.
+
+ghost use Rattle.std.specs.Prelude.{◌≡◌, ◌<◌, ◌≤◌, ◌-◌, length, map, All, IfOk, slice_index_or};
+ghost use Rattle.cf_model.specs.Patterns.{sub};
+ghost use Rattle.cf_model.specs.Diagrams.{pattern, row, IsGood, Extends};
+ghost use Rattle.cf_tuple.specs.Books.{Lengthens};
+ghost use Rattle.cf_table.specs.Groupings.{Owns, node_of, pattern_of, connection_of};
+ghost use Rattle.cf_table.specs.Goodness.{IsGoodOver};
+ghost use Rattle.cf_build.specs.Assembling.{HasCanon, AddsOnly};
+ghost use Rattle.cf_pair.specs.Products.{zip3, returned3, triple_word, Lists, ListEach, AddsOnlyIn};
+
+use cf_build::assemble;
+use cf_table::steps::Steps;
+use cf_table::{BConn, DONT_CARE, FORK, Gid, Table};
+use cf_tuple::NoMemory;
+use std::alloc::Global;
+use std::sync::ledger::Ledger;
+
+/// At level 0 bit 0 leads to exit 0, and bit 1 to the last exit.
+fn triple_bases(
+    alloc: Global,
+    table: &Table,
+    f: Gid,
+    g: Gid,
+    h: Gid,
+) -> Result<(Gid, Vec<(u64, u64, u64)>), NoMemory>
+    requires first_level { f.level ≡ 0 }
+    requires second_level { g.level ≡ 0 }
+    requires third_level { h.level ≡ 0 }
+    requires good { IsGood table.now.levels }
+    requires first { Owns table.now f }
+    requires second { Owns table.now g }
+    requires third { Owns table.now h }
+    ensures { IfOk result (λ r. HasCanon table.now.levels r.0 0 (zip3 (pattern_of table.now f) (pattern_of table.now g) (pattern_of table.now h)) r.1.items) }
+{
+    let last = (table.exits(f) - 1, table.exits(g) - 1, table.exits(h) - 1);
+    let mut triples = Vec::new(alloc);
+    triples.push((0, 0, 0))?;
+    if last == (0, 0, 0) {
+        return Ok((DONT_CARE, triples));
+    }
+    triples.push(last)?;
+    Ok((FORK, triples))
+}
+
+fn returned_triples(
+    alloc: Global,
+    triples: &[(u64, u64, u64)],
+    left: &[u64],
+    middle: &[u64],
+    right: &[u64],
+) -> Result<Vec<(u64, u64, u64)>, NoMemory>
+    requires within { All (λ t. (t.0 < length left.now) × (t.1 < length middle.now) × (t.2 < length right.now)) triples.now }
+    ensures { IfOk result (λ v. v.items ≡ map (returned3 left.now middle.now right.now) triples.now) }
+{
+    let mut returned = Vec::new(alloc);
+    for i in 0..triples.len() {
+        let triple = triples[i];
+        returned.push((
+            left[triple.0 as usize],
+            middle[triple.1 as usize],
+            right[triple.2 as usize],
+        ))?;
+    }
+    Ok(returned)
+}
+
+/// The product of three groupings of one level.
+#[cycle(triple)]
+pub(crate) fn triple_groupings<L: Ledger>(
+    alloc: Global,
+    table: &mut Table,
+    f: Gid,
+    g: Gid,
+    h: Gid,
+    steps: &mut Steps<L>,
+) -> Result<(Gid, Vec<(u64, u64, u64)>), NoMemory>
+    requires level { f.level ≤ 7 }
+    requires second_level { g.level ≡ f.level }
+    requires third_level { h.level ≡ f.level }
+    requires good { IsGood table.old.levels }
+    requires first { Owns table.old f }
+    requires second { Owns table.old g }
+    requires third { Owns table.old h }
+    ensures tripled { IfOk result (λ r. HasCanon table.new.levels r.0 f.level (zip3 (pattern_of table.old f) (pattern_of table.old g) (pattern_of table.old h)) r.1.items) }
+    ensures added { IfOk result (λ r. AddsOnly table.old.levels table.new.levels (sub r.0.level (pattern_of table.new r.0))) }
+    ensures good { IsGood table.new.levels }
+    ensures extends { Extends table.old.levels table.new.levels }
+    ensures longer { Lengthens table.old.tuples table.new.tuples }
+{
+    if f.level == 0 {
+        return triple_bases(alloc, table, f, g, h);
+    }
+    let a = table.a_of(f, steps);
+    let b = table.a_of(g, steps);
+    let c = table.a_of(h, steps);
+    let (callee, middles) = triple_groupings(alloc, table, a, b, c, steps)?;
+    let rows = triple_rows(alloc, table, f, g, h, middles.as_slice(), steps)?;
+    assemble(alloc, table, callee, rows.as_slice())
+}
+
+/// The row of three middle vertices, by their B-connections.
+#[cycle(triple)]
+fn triple_row<L: Ledger>(
+    alloc: Global,
+    table: &mut Table,
+    x: BConn,
+    y: BConn,
+    z: BConn,
+    steps: &mut Steps<L>,
+) -> Result<(Gid, Vec<(u64, u64, u64)>), NoMemory>
+    requires level { x.«to».level ≤ 6 }
+    requires good { IsGood table.old.levels }
+    requires first { IsGoodOver table.old x.«to».level x }
+    requires second { IsGoodOver table.old x.«to».level y }
+    requires third { IsGoodOver table.old x.«to».level z }
+    ensures row { IfOk result (λ r. Lists table.new.levels x.«to».level (zip3 (row (pattern table.old.levels x.«to».level) (connection_of table.old.tuples x)) (row (pattern table.old.levels x.«to».level) (connection_of table.old.tuples y)) (row (pattern table.old.levels x.«to».level) (connection_of table.old.tuples z))) r) }
+    ensures added { IfOk result (λ r. AddsOnly table.old.levels table.new.levels (sub x.«to».level (pattern table.new.levels x.«to».level r.0.at))) }
+    ensures good { IsGood table.new.levels }
+    ensures extends { Extends table.old.levels table.new.levels }
+    ensures longer { Lengthens table.old.tuples table.new.tuples }
+{
+    let (to, triples) = triple_groupings(alloc, table, x.to, y.to, z.to, steps)?;
+    let labels = returned_triples(
+        alloc,
+        triples.as_slice(),
+        table.tuple(x.ret),
+        table.tuple(y.ret),
+        table.tuple(z.ret),
+    )?;
+    Ok((to, labels))
+}
+
+/// A row for each three middle vertices.
+#[cycle(triple)]
+fn triple_rows<L: Ledger>(
+    alloc: Global,
+    table: &mut Table,
+    f: Gid,
+    g: Gid,
+    h: Gid,
+    middles: &[(u64, u64, u64)],
+    steps: &mut Steps<L>,
+) -> Result<Vec<(Gid, Vec<(u64, u64, u64)>)>, NoMemory>
+    requires above { 1 ≤ f.level }
+    requires level { f.level ≤ 7 }
+    requires second_level { g.level ≡ f.level }
+    requires third_level { h.level ≡ f.level }
+    requires good { IsGood table.old.levels }
+    requires first { Owns table.old f }
+    requires second { Owns table.old g }
+    requires third { Owns table.old h }
+    requires middles { All (λ m. (m.0 < length (node_of table.old f).connections) × (m.1 < length (node_of table.old g).connections) × (m.2 < length (node_of table.old h).connections)) middles.now }
+    ensures rows { IfOk result (λ v. ListEach table.new.levels (f.level - 1) (λ i. triple_word (pattern table.old.levels (f.level - 1)) (node_of table.old f).connections (node_of table.old g).connections (node_of table.old h).connections (slice_index_or middles.now i (0, 0, 0))) (length middles.now) v.items) }
+    ensures added { IfOk result (λ v. AddsOnlyIn table.old.levels table.new.levels (f.level - 1) v.items) }
+    ensures good { IsGood table.new.levels }
+    ensures extends { Extends table.old.levels table.new.levels }
+    ensures longer { Lengthens table.old.tuples table.new.tuples }
+{
+    let mut rows = Vec::new(alloc);
+    for i in 0..middles.len() {
+        let middle = middles[i];
+        let x = table.b_of(f, middle.0, steps);
+        let y = table.b_of(g, middle.1, steps);
+        let z = table.b_of(h, middle.2, steps);
+        let row = triple_row(alloc, table, x, y, z, steps)?;
+        rows.push(row)?;
+    }
+    Ok(rows)
+}
