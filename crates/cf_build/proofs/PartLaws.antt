@@ -106,7 +106,7 @@ join_added t s u v l tuples all bs classes a at gs gu x y room own ca ar aa c i 
 contains_here : {A : Type 0} (x y : A) (ys : List A) → y ≡ x → Contains (y ∷ ys) x
 contains_here x y ys e = (0, omega arith, e)
 
-pub contains_word : {A X : Type 0} (x : A) (f : X → List A) (ys : List X) (m : ℕ) (d : X) → m < length ys → Contains (f (get_or ys m d)) x → Contains (flat_map f ys) x
+contains_word : {A X : Type 0} (x : A) (f : X → List A) (ys : List X) (m : ℕ) (d : X) → m < length ys → Contains (f (get_or ys m d)) x → Contains (flat_map f ys) x
 contains_word x f [] m d h w = absurd (omega (arith, h))
 contains_word x f (y ∷ ys) zero d h w = Contains-append_left (f y) (flat_map f ys) x w
 contains_word x f (y ∷ ys) (suc m) d h w = Contains-append_right (f y) (flat_map f ys) x (contains_word x f ys m d (omega (arith, h)) w)
@@ -117,30 +117,44 @@ pattern_at t l i = record { level = l; ranks = pattern t l i }
 self : (t : Levels) (l i k j : ℕ) → k ≡ l → j ≡ i → pattern_at t l i ≡ pattern_at t k j
 self t l i k j e q = ap (λ (x : ℕ). pattern_at t x i) (sym e) ∙ ap (λ (y : ℕ). pattern_at t k y) (sym q)
 
+-- what the A-callee is made of, its grouping is made of
+pub sub_of_a : (t : Levels) → IsGood t → (l i : ℕ) → i < count t (suc l) → (x : Pattern) → Contains (sub l (pattern t l (node t (suc l) i).a_callee)) x → Contains (sub (suc l) (pattern t (suc l) i)) x
+unfolding sub
+sub_of_a t g l i h x w =
+    let p = pattern t (suc l) i in
+    let left = sub l (a_pattern l p) in
+    let right = flat_map (sub l) (b_patterns l p) in
+    let here : Pattern = record { level = suc l; ranks = p } in
+    Contains-append_right (here ∷ []) (left ++ right) x (Contains-append_left left right x (subst (λ (q : List ℕ). Contains (sub l q) x) (a_law t g l i h) w))
+
+-- and so is what a B-callee is made of
+pub sub_of_b : (t : Levels) → IsGood t → (l i m : ℕ) → i < count t (suc l) → m < length (node t (suc l) i).connections → (x : Pattern) → Contains (sub l (pattern t l (connection_at (node t (suc l) i).connections m).callee)) x → Contains (sub (suc l) (pattern t (suc l) i)) x
+unfolding sub
+sub_of_b t g l i m h hm x w =
+    let d = node t (suc l) i in
+    let p = pattern t (suc l) i in
+    let left = sub l (a_pattern l p) in
+    let right = flat_map (sub l) (b_patterns l p) in
+    let here : Pattern = record { level = suc l; ranks = p } in
+    let ps = map (rgs nat_eq) (map (row (pattern t l)) d.connections) in
+    let lm : m < length (map (row (pattern t l)) d.connections) = omega (arith, hm, length-map d.connections (row (pattern t l))) in
+    let at : get_or ps m [] ≡ rgs nat_eq (row (pattern t l) (connection_at d.connections m)) = get_or-map (rgs nat_eq) (map (row (pattern t l)) d.connections) m [] [] lm ∙ ap (λ (v : List ℕ). rgs nat_eq v) (get_or-map (row (pattern t l)) d.connections m no_connection [] hm) in
+    let v : Contains (sub l (get_or ps m [])) x = subst (λ (q : List ℕ). Contains (sub l q) x) ((b_law t g l i m h hm).0 ∙ sym at) w in
+    let all : Contains (flat_map (sub l) ps) x = contains_word x (sub l) ps m [] (omega (arith, lm, length-map (map (row (pattern t l)) d.connections) (rgs nat_eq))) v in
+    Contains-append_right (here ∷ []) (left ++ right) x (Contains-append_right left right x
+    (subst (λ (rs : List (List ℕ)). Contains (flat_map (sub l) (map (rgs nat_eq) rs)) x) (b_rows t g l i h) all))
+
 pub part_in_sub : (t : Levels) → IsGood t → (l i : ℕ) → i < count t l → (k j : ℕ) → IsPart t l i k j → Contains (sub l (pattern t l i)) (pattern_at t k j)
 unfolding sub
 part_in_sub t g zero i h k j r = contains_here (pattern_at t k j) (pattern_at t 0 i) [] (self t 0 i k j r.0 r.1)
 part_in_sub t g (suc l) i h k j r =
-    let d = node t (suc l) i in
+    let good : IsGoodNode (count t l) (exits t l) (node t (suc l) i) = g.good_nodes l i h in
     let p = pattern t (suc l) i in
-    let good : IsGoodNode (count t l) (exits t l) d = g.good_nodes l i h in
-    let x = pattern_at t k j in
-    let here = pattern_at t (suc l) i in
-    let left = sub l (a_pattern l p) in
-    let right = flat_map (sub l) (b_patterns l p) in
     elim r [
-      | inl s ↦ contains_here x here (left ++ right) (self t (suc l) i k j s.0 s.1)
+      | inl s ↦ contains_here (pattern_at t k j) (pattern_at t (suc l) i) (sub l (a_pattern l p) ++ flat_map (sub l) (b_patterns l p)) (self t (suc l) i k j s.0 s.1)
       | inr s ↦ elim s [
-        | inl a ↦ (let w : Contains left x = subst (λ (q : List ℕ). Contains (sub l q) x) (a_law t g l i h) (part_in_sub t g l d.a_callee good.callee_exists k j a) in
-            Contains-append_right (here ∷ []) (left ++ right) x (Contains-append_left left right x w))
-        | inr b ↦ (let m = b.0 in
-            let ps = map (rgs nat_eq) (map (row (pattern t l)) d.connections) in
-            let lm : m < length (map (row (pattern t l)) d.connections) = omega (arith, b.1, length-map d.connections (row (pattern t l))) in
-            let at : get_or ps m [] ≡ rgs nat_eq (row (pattern t l) (connection_at d.connections m)) = get_or-map (rgs nat_eq) (map (row (pattern t l)) d.connections) m [] [] lm ∙ ap (λ (v : List ℕ). rgs nat_eq v) (get_or-map (row (pattern t l)) d.connections m no_connection [] b.1) in
-            let w : Contains (sub l (get_or ps m [])) x = subst (λ (q : List ℕ). Contains (sub l q) x) ((b_law t g l i m h b.1).0 ∙ sym at) (part_in_sub t g l (connection_at d.connections m).callee (good.good_connections m b.1).callee_exists k j b.2) in
-            let all : Contains (flat_map (sub l) ps) x = contains_word x (sub l) ps m [] (omega (arith, lm, length-map (map (row (pattern t l)) d.connections) (rgs nat_eq))) w in
-            Contains-append_right (here ∷ []) (left ++ right) x (Contains-append_right left right x
-            (subst (λ (rs : List (List ℕ)). Contains (flat_map (sub l) (map (rgs nat_eq) rs)) x) (b_rows t g l i h) all)))
+        | inl a ↦ sub_of_a t g l i h (pattern_at t k j) (part_in_sub t g l (node t (suc l) i).a_callee good.callee_exists k j a)
+        | inr b ↦ sub_of_b t g l i b.0 h b.1 (pattern_at t k j) (part_in_sub t g l (connection_at (node t (suc l) i).connections b.0).callee (good.good_connections b.0 b.1).callee_exists k j b.2)
       ]
     ]
 

@@ -1,12 +1,13 @@
 //! Labels, told apart by their keys, and their ranks of first appearance.
 
-ghost use Rattle.std.specs.Prelude.{◌≡◌, ◌↔◌, List, ℕ, IsTrue, MatchOption, IfOk, slice_get, Some};
+ghost use Rattle.std.specs.Prelude.{◌≡◌, List, ℕ, IfOk};
 ghost use Rattle.cf_model.specs.Values.{Fits};
-ghost use Rattle.cf_model.specs.Renumbering.{IsNew, IsCanon};
+ghost use Rattle.cf_model.specs.Renumbering.{IsCanon};
 ghost use Rattle.cf_build.specs.Keys.{IsWord, word_key, IsPair, pair_key, IsTriple, triple_key, value_key, IsConnection, connection_key, word_keys_differ, pair_keys_differ, triple_keys_differ, value_keys_differ, connection_keys_differ};
 
 use cf_table::BConn;
 use cf_tuple::NoMemory;
+use indexmap::IndexSet;
 use std::alloc::Global;
 
 /// What may be assembled: a value whose key tells it from others.
@@ -91,23 +92,6 @@ impl Label for BConn {
     }
 }
 
-fn same_label<T: Label>(x: T, y: T) -> bool
-    ensures { IsTrue result ↔ (x ≡ y) }
-{
-    x.key() == y.key()
-}
-
-fn find_label<T: Label>(labels: &[T], x: T) -> Option<usize>
-    ensures { MatchOption result (IsNew labels.now x) (λ i. slice_get labels.now i ≡ Some x) }
-{
-    for i in 0..labels.len() {
-        if same_label(labels[i], x) {
-            return Some(i);
-        }
-    }
-    None
-}
-
 /// The rank of first appearance of each label, and the different labels in that order.
 pub(crate) fn canon_of<T: Label>(
     alloc: Global,
@@ -115,18 +99,14 @@ pub(crate) fn canon_of<T: Label>(
 ) -> Result<(Vec<u64>, Vec<T>), NoMemory>
     ensures { IfOk result (λ r. IsCanon labels.now r.0.items r.1.items) }
 {
+    let mut keys = IndexSet::new(alloc);
     let mut ranks = Vec::new(alloc);
     let mut different = Vec::new(alloc);
-    for i in 0..labels.len() {
-        let x = labels[i];
-        match find_label(different.as_slice(), x) {
-            Some(at) => {
-                ranks.push(at as u64)?;
-            }
-            None => {
-                ranks.push(different.len() as u64)?;
-                different.push(x)?;
-            }
+    for &label in labels {
+        let (rank, is_new) = keys.insert_full(label.key())?;
+        ranks.push(rank as u64)?;
+        if is_new {
+            different.push(label)?;
         }
     }
     Ok((ranks, different))

@@ -91,32 +91,44 @@ mod tests {
     }
 
     #[test]
-    fn labels_and_classes(rt: HostRuntime) -> Result<(), Fail> {
+    fn equal_rows_and_labels(rt: HostRuntime) -> Result<(), Fail> {
         let alloc = rt.alloc();
         let mut table = Table::new(alloc)?;
-        let (third, labels) = of_four(alloc, &mut table, &[5_u64, 5, 7, 5])?;
+        let (g, labels) = of_four(alloc, &mut table, &[5_u64, 5, 7, 5])?;
         assert_eq!(rt; labels.as_slice(), [5, 7].as_slice());
-        assert!(rt; table.owns(third) && third.level == 1);
-        assert_eq!(rt; table.a_callee(third), FORK);
-        let conns = table.b_connections(third);
+        assert!(rt; table.owns(g) && g.level == 1);
+        assert_eq!(rt; table.a_callee(g), FORK);
+        let conns = table.b_connections(g);
         assert_eq!(rt; conns.len(), 2);
         assert_eq!(rt; conns[0].to, DONT_CARE);
         assert_eq!(rt; table.tuple(conns[0].ret), [0].as_slice());
         assert_eq!(rt; conns[1].to, FORK);
         assert_eq!(rt; table.tuple(conns[1].ret), [1, 0].as_slice());
+        Ok(())
+    }
 
+    #[test]
+    fn classes(rt: HostRuntime) -> Result<(), Fail> {
+        let alloc = rt.alloc();
+        let mut table = Table::new(alloc)?;
+        let (third, _) = of_four(alloc, &mut table, &[5_u64, 5, 7, 5])?;
         let pairs = [(0_u64, 0_u64), (0, 1), (1, 0), (1, 1)];
         let (whole, different) = of_four(alloc, &mut table, &pairs)?;
         assert_eq!(rt; different.as_slice(), pairs.as_slice());
         assert!(rt; table.owns(whole) && table.exits(whole) == 4);
         assert_eq!(rt; reduce(alloc, &mut table, whole, &[4, 4, 9, 4])?, third);
+        Ok(())
+    }
 
-        let (same, values) = of_four(alloc, &mut table, &[1_i128, 1, -1, 1])?;
-        assert_eq!(rt; same, third);
+    #[test]
+    fn labels_of_each_type(rt: HostRuntime) -> Result<(), Fail> {
+        let alloc = rt.alloc();
+        let mut table = Table::new(alloc)?;
+        let (g, values) = of_four(alloc, &mut table, &[1_i128, 1, -1, 1])?;
         assert_eq!(rt; values.as_slice(), [1, -1].as_slice());
         let triples = [(0_u64, 0_u64, 0_u64), (0, 0, 0), (0, 0, 1), (0, 0, 0)];
-        let (same, different) = of_four(alloc, &mut table, &triples)?;
-        assert_eq!(rt; same, third);
+        let (h, different) = of_four(alloc, &mut table, &triples)?;
+        assert_eq!(rt; h, g);
         assert_eq!(rt; different.as_slice(), [(0, 0, 0), (0, 0, 1)].as_slice());
         Ok(())
     }

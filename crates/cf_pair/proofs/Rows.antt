@@ -22,7 +22,8 @@ use Rattle.cf_build.specs.Assembling.{row_of, label_at, row_labels, labels_over,
 use Rattle.cf_build.proofs.Words.{canon_reads}
 use Rattle.cf_build.proofs.Joins.{flat_map_under, words_map}
 use Rattle.cf_pair.specs.Products.{Lists, ListEach, AddsOnlyIn, HasListed}
-use Rattle.cf_pair.proofs.Faithful.{sub_of_a, sub_of_b, Over, faithful}
+use Rattle.cf_build.proofs.PartLaws.{sub_of_a, sub_of_b}
+use Rattle.cf_build.proofs.Faithful.{Over, faithful}
 
 label_there : {A : Type 0} (xs : List A) (i : ℕ) (d : A) → i < length xs → label_at xs i ≡ get_or xs i d ∷ []
 label_there xs i d h = ap option_to_list (slice_get-get_or xs i d h)

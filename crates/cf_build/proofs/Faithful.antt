@@ -1,49 +1,18 @@
-use Rattle.std.proofs.Common.{◌≡◌, ℕ, zero, suc, ◌<◌, List, [], ◌∷◌, ◌++◌, map, refl, sym, ◌∙◌, ap, subst, length, get_or, arith, Some, nat_eq}
-use Rattle.std.specs.List.{flat_map, slice_get, Contains}
+use Rattle.std.proofs.Common.{◌≡◌, ℕ, zero, suc, ◌<◌, List, [], ◌∷◌, ◌++◌, map, refl, sym, ◌∙◌, ap, subst, length, get_or, arith, Some}
+use Rattle.std.specs.List.{flat_map, slice_get}
 use Rattle.std.specs.Option.{option_to_list}
 use Rattle.std.proofs.lemmas.Option.{same_Some}
-use Rattle.std.proofs.lemmas.List.{length-map, get_or-map}
-use Rattle.std.proofs.lemmas.List.Elements.{Contains-append_left, Contains-append_right}
-use Rattle.cf_model.specs.Renumbering.{width, rgs, IsApart, AllDiffer, IsCanon}
+use Rattle.std.proofs.lemmas.List.{length-map}
+use Rattle.cf_model.specs.Renumbering.{width, IsApart, AllDiffer, IsCanon}
 use Rattle.cf_model.specs.FlatFunctions.{points}
-use Rattle.cf_model.specs.Patterns.{Pattern, a_pattern, b_patterns, sub}
-use Rattle.cf_model.specs.Diagrams.{Levels, no_connection, exit_at, connection_at, count, node, row, pattern, all_returns, exits, IsGoodNode, IsGood}
+use Rattle.cf_model.specs.Diagrams.{Levels, exit_at, connection_at, count, node, row, pattern, all_returns, exits, IsGoodNode, IsGood}
 use Rattle.cf_model.proofs.Growth.{Under, Under-width, unique}
 use Rattle.cf_model.proofs.CanonLaws.{apart}
 use Rattle.cf_model.proofs.RenumberingLaws.{map_map}
 use Rattle.cf_model.proofs.Canonicity.{level_holds, pattern-above, same_rows, row_tells, row_points}
-use Rattle.cf_model.proofs.Callees.{a_law, b_law, b_rows}
 use Rattle.cf_build.specs.Assembling.{label_at, row_labels, labels_over}
 use Rattle.cf_build.proofs.Joins.{flat_map_under, map_words}
 use Rattle.cf_build.proofs.Loops.{returned_under, Under-at}
-use Rattle.cf_build.proofs.PartLaws.{contains_word}
-
--- what the A-callee is made of, its grouping is made of
-pub sub_of_a : (t : Levels) → IsGood t → (l i : ℕ) → i < count t (suc l) → (x : Pattern) → Contains (sub l (pattern t l (node t (suc l) i).a_callee)) x → Contains (sub (suc l) (pattern t (suc l) i)) x
-unfolding sub
-sub_of_a t g l i h x w =
-    let p = pattern t (suc l) i in
-    let left = sub l (a_pattern l p) in
-    let right = flat_map (sub l) (b_patterns l p) in
-    let here : Pattern = record { level = suc l; ranks = p } in
-    Contains-append_right (here ∷ []) (left ++ right) x (Contains-append_left left right x (subst (λ (q : List ℕ). Contains (sub l q) x) (a_law t g l i h) w))
-
--- and so is what a B-callee is made of
-pub sub_of_b : (t : Levels) → IsGood t → (l i m : ℕ) → i < count t (suc l) → m < length (node t (suc l) i).connections → (x : Pattern) → Contains (sub l (pattern t l (connection_at (node t (suc l) i).connections m).callee)) x → Contains (sub (suc l) (pattern t (suc l) i)) x
-unfolding sub
-sub_of_b t g l i m h hm x w =
-    let d = node t (suc l) i in
-    let p = pattern t (suc l) i in
-    let left = sub l (a_pattern l p) in
-    let right = flat_map (sub l) (b_patterns l p) in
-    let here : Pattern = record { level = suc l; ranks = p } in
-    let ps = map (rgs nat_eq) (map (row (pattern t l)) d.connections) in
-    let lm : m < length (map (row (pattern t l)) d.connections) = omega (arith, hm, length-map d.connections (row (pattern t l))) in
-    let at : get_or ps m [] ≡ rgs nat_eq (row (pattern t l) (connection_at d.connections m)) = get_or-map (rgs nat_eq) (map (row (pattern t l)) d.connections) m [] [] lm ∙ ap (λ (v : List ℕ). rgs nat_eq v) (get_or-map (row (pattern t l)) d.connections m no_connection [] hm) in
-    let v : Contains (sub l (get_or ps m [])) x = subst (λ (q : List ℕ). Contains (sub l q) x) ((b_law t g l i m h hm).0 ∙ sym at) w in
-    let all : Contains (flat_map (sub l) ps) x = contains_word x (sub l) ps m [] (omega (arith, lm, length-map (map (row (pattern t l)) d.connections) (rgs nat_eq))) v in
-    Contains-append_right (here ∷ []) (left ++ right) x (Contains-append_right left right x
-    (subst (λ (rs : List (List ℕ)). Contains (flat_map (sub l) (map (rgs nat_eq) rs)) x) (b_rows t g l i h) all))
 
 -- a list of numbers in range is told by what they name
 injected : {A : Type 0} (f : ℕ → A) (k : ℕ) → IsApart f k → (xs ys : List ℕ) → Under k xs → Under k ys → map f xs ≡ map f ys → xs ≡ ys
