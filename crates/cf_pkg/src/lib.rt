@@ -1,16 +1,18 @@
 // Functions with integer values, each of one representative.
 #![tactic(auto)]
 
+mod basics;
 mod walk;
 
-ghost use Rattle.std.specs.Prelude.{◌≡◌, ◌≤◌, ◌+◌, ◌-◌, ◌*◌, ◌^◌, ◌↔◌, List, Bool, IsTrue, IfOk, Some};
+ghost use Rattle.std.specs.Prelude.{◌≡◌, ◌<◌, ◌≤◌, ◌+◌, ◌-◌, ◌*◌, ◌^◌, ◌↔◌, List, Bool, IsTrue, IfOk, Some};
 ghost use Rattle.cf_model.specs.Assignments.{bits};
-ghost use Rattle.cf_model.specs.FlatFunctions.{IsAssignment, value_at};
+ghost use Rattle.cf_model.specs.FlatFunctions.{IsAssignment, value_at, tabulated, variable};
 ghost use Rattle.cf_model.specs.Diagrams.{IsGood};
 ghost use Rattle.cf_model.specs.Functions.{IsFunction};
 ghost use Rattle.cf_model.specs.Renumbering.{AllDiffer};
-ghost use Rattle.cf_pkg.specs.Packages.{no_function, values_of, OwnsFunction, meaning};
+ghost use Rattle.cf_pkg.specs.Packages.{no_function, values_of, OwnsFunction, meaning, Means, Keeps};
 
+use basics::{constant_grouping, variable_grouping};
 use cf_bits::Bits;
 use cf_table::steps::Steps;
 use cf_table::{Gid, Table};
@@ -101,6 +103,33 @@ impl Pkg {
     {
         self.table.law();
         let _ = self.values.get(f.vals);
+    }
+
+    /// The function that is v everywhere.
+    pub fn constant(&mut self, level: u8, v: i128) -> Result<Func, NoMemory>
+        requires level { level ≤ 7 }
+        ensures level { IfOk result (λ f. f.head.level ≡ level) }
+        ensures means { IfOk result (λ f. Means self.new f (tabulated level (λ bits. v))) }
+        ensures kept { Keeps self.old self.new }
+    {
+        self.table.law();
+        let head = constant_grouping(self.alloc, &mut self.table, level)?;
+        let vals = self.values.intern(&[v])?;
+        Ok(Func { head, vals })
+    }
+
+    /// The function that is bit i, counted from the first, as 0 or 1.
+    pub fn variable(&mut self, level: u8, i: u8) -> Result<Func, NoMemory>
+        requires level { level ≤ 7 }
+        requires variable { i < 2 ^ level }
+        ensures level { IfOk result (λ f. f.head.level ≡ level) }
+        ensures means { IfOk result (λ f. Means self.new f (variable level i)) }
+        ensures kept { Keeps self.old self.new }
+    {
+        self.table.law();
+        let head = variable_grouping(self.alloc, &mut self.table, level, i)?;
+        let vals = self.values.intern(&[0, 1])?;
+        Ok(Func { head, vals })
     }
 
     /// The value of a function at an assignment of its 2^level variables. Each view of a grouping
