@@ -1,0 +1,6 @@
+pub mod Turn
+pub mod Meanings
+pub mod Spread
+pub mod Counts
+pub mod Made
+pub mod Keeping

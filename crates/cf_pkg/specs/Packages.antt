@@ -1,0 +1,43 @@
+use Rattle.std.specs.Prelude.{◌≡◌, ◌<◌, ℤ, List, [], length, slice_index_or as get_or}
+use Rattle.cf_model.specs.FlatFunctions.{FlatFunction}
+use Rattle.cf_model.specs.Diagrams.{Extends}
+use Rattle.cf_model.specs.Functions.{function_of}
+use Rattle.cf_table.specs.Groupings.{Groupings, only_base, Owns, exits_of}
+use Rattle.cf_tuple.specs.Books.{Lengthens as KeepsTuples}
+use Rattle.cf_values.specs.Books.{Lengthens}
+use Rattle.cf_pkg.specs.declared.Func.{Func}
+
+-- A package as contracts see it: its groupings, and its lists of values.
+pub record Package : Type 0 where
+  pub groupings : Groupings
+  pub lists : List (List ℤ)
+
+-- the package without a function: the two groupings of level 0, and no list of values
+abbrev pub no_function : Package
+no_function = record { groupings = only_base; lists = [] }
+
+-- the values of a function, one for each exit of its grouping
+abbrev pub values_of : Package → Func → List ℤ
+values_of p f = get_or p.lists f.vals.at []
+
+-- The package owns the function: its grouping and its list of values are there, with one value per exit.
+pub record OwnsFunction (p : Package) (f : Func) : Type 0 where
+  pub head : Owns p.groupings f.head
+  pub list : f.vals.at < length p.lists
+  pub valued : length (values_of p f) ≡ exits_of p.groupings f.head
+
+-- the flat function that a function means
+abbrev pub meaning : Package → Func → FlatFunction
+meaning p f = function_of p.groupings.levels f.head.level f.head.at (values_of p f)
+
+-- The package owns the function, and it means the flat function.
+pub record Means (p : Package) (f : Func) (flat : FlatFunction) : Type 0 where
+  pub owned : OwnsFunction p f
+  pub is_it : meaning p f ≡ flat
+
+-- What was in the package is there at its ids, and each function means what it meant.
+pub record Keeps (before now : Package) : Type 0 where
+  pub groupings : Extends before.groupings.levels now.groupings.levels
+  pub tuples : KeepsTuples before.groupings.tuples now.groupings.tuples
+  pub lists : Lengthens before.lists now.lists
+  pub functions : (f : Func) → OwnsFunction before f → Means now f (meaning before f)
