@@ -2,6 +2,7 @@
 #![tactic(auto)]
 
 mod basics;
+pub mod least;
 mod walk;
 
 ghost use Rattle.std.specs.Prelude.{◌≡◌, ◌<◌, ◌≤◌, ◌+◌, ◌-◌, ◌*◌, ◌^◌, ◌↔◌, List, Bool, IsTrue, IfOk, Some};
