@@ -5,7 +5,7 @@ use Rattle.cf_model.specs.FlatFunctions.{IsLeast}
 use Rattle.cf_model.proofs.FlatFunctionLaws.{points-is}
 use Rattle.cf_table.specs.Groupings.{pattern_of}
 use Rattle.cf_pkg.proofs.Firsts.{least_is}
-use Rattle.cf_pkg.proofs.least.least.Goals as goal
+use Rattle.cf_pkg.proofs.least_assignment.least.Goals as goal
 
 pub new-requires-clause-below : goal.new-requires-clause-below
 new-requires-clause-below g c =

@@ -1,6 +1,6 @@
 use Rattle.std.proofs.Common.{◌<◌, ◌+◌, ◌*◌, ◌^◌, arith}
 use Rattle.cf_pkg.proofs.Firsts.{first_base, joined, joined_fits, found}
-use Rattle.cf_pkg.proofs.least.+least_number.Goals as goal
+use Rattle.cf_pkg.proofs.least_assignment.+least_number.Goals as goal
 
 pub returns-then-g-eq0-clause-first : goal.returns-then-g-eq0-clause-first
 returns-then-g-eq0-clause-first g t c = first_base c.args.table.now.levels c.law.ensures.good c.args.g.level c.args.g.at c.args.e c.if-g-eq0.true c.requires.owned c.requires.exit
