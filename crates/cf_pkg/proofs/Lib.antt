@@ -4,3 +4,4 @@ pub mod Spread
 pub mod Counts
 pub mod Made
 pub mod Keeping
+pub mod Firsts

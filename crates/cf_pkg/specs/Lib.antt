@@ -1,2 +1,3 @@
 pub mod Packages
 pub mod Basics
+pub mod Firsts

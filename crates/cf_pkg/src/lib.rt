@@ -2,6 +2,7 @@
 #![tactic(auto)]
 
 mod basics;
+mod least_assignment;
 mod walk;
 
 ghost use Rattle.std.specs.Prelude.{◌≡◌, ◌<◌, ◌≤◌, ◌+◌, ◌-◌, ◌*◌, ◌^◌, ◌↔◌, List, Bool, IsTrue, IfOk, Some};
@@ -18,6 +19,7 @@ use cf_table::steps::Steps;
 use cf_table::{Gid, Table};
 use cf_tuple::NoMemory;
 use cf_values::{ValueBook, Vid};
+pub use least_assignment::least;
 use std::alloc::Global;
 use std::marker::Model;
 use std::sync::ledger::Ledger;
