@@ -11,6 +11,7 @@ ghost use Rattle.cf_model.specs.FlatFunctions.{IsAssignment, value_at, tabulated
 ghost use Rattle.cf_model.specs.Diagrams.{IsGood};
 ghost use Rattle.cf_model.specs.Functions.{IsFunction};
 ghost use Rattle.cf_model.specs.Renumbering.{AllDiffer};
+ghost use Rattle.cf_table.specs.Groupings.{Owns, exits_of};
 ghost use Rattle.cf_pkg.specs.Packages.{no_function, values_of, OwnsFunction, meaning, Means, Keeps};
 
 use basics::{constant_grouping, variable_grouping};
@@ -207,6 +208,28 @@ mod tests {
         );
         assert!(rt; pkg.same(second, again) && !pkg.same(first, second));
         assert_eq!(rt; pkg.level_of(first), 1);
+        Ok(())
+    }
+
+    /// The number of the least assignment at which a function has its second value.
+    fn second_value_at<L: Ledger>(pkg: &Pkg, f: Func, blank: Blank) -> u128
+        requires owned { Owns pkg.now.groupings f.head }
+        requires exit { 1 < exits_of pkg.now.groupings f.head }
+        requires name { blank.name ≡ L.name }
+        requires parts { blank.parts ≡ L.parts }
+        requires some { 0 < blank.parts }
+    {
+        let mut steps = Steps::<L>::open(blank);
+        least(pkg.table(), f.head, 1, &mut steps).number()
+    }
+
+    #[test]
+    fn least_assignments(rt: HostRuntime) -> Result<(), Fail> {
+        let mut pkg = Pkg::new(rt.alloc())?;
+        let second = pkg.variable(1, 1)?;
+        assert!(rt; pkg.table().owns(second.head));
+        assert!(rt; 1 < pkg.table().exits(second.head));
+        assert_eq!(rt; second_value_at::<Brand>(&pkg, second, Blank::new(1)), 1);
         Ok(())
     }
 }
