@@ -15,7 +15,10 @@ instructions() {
 
 base=$(instructions)
 for workload in "values 100000" "names 1000" "line 4096" "line 8192" "line 16384" "line 65536" \
-    "pairs 8" "pairs 16" "pairs 32" "pairs 64" "pairs 128"; do
+    "pairs 8" "pairs 16" "pairs 32" "pairs 64" "pairs 128" \
+    "parity 16" "parity 32" "parity 64" "parity 128" \
+    "fold 1024" "fold 8192" "fold 65536" "comment 1024" "comment 8192" "comment 65536" \
+    "nesting 1024" "nesting 8192" "nesting 65536"; do
     # shellcheck disable=SC2086
     echo "$workload: $(($(instructions $workload) - base))"
 done

@@ -1,7 +1,10 @@
-// Runs named workloads of given sizes, as `values 1000 line 4096 pairs 8`, and says how each ended.
+// Runs named workloads of given sizes, as `values 1000 line 4096 pairs 8 parity 8 fold 1024`, and says how each
+// ended.
 #![tactic(auto)]
 
 mod pairs;
+mod parity;
+mod parsing;
 mod script;
 
 ghost use Rattle.std.specs.Prelude.{◌≤◌, IfSome};
@@ -9,6 +12,8 @@ ghost use Rattle.std.specs.Prelude.{◌≤◌, IfSome};
 use cf_io::{MemFiles, MemSink, MemSource};
 use cf_top::run;
 use pairs::paired_projections;
+use parity::parity_of_variables;
+use parsing::{LongLine, arguments};
 use script::Script;
 use std::marker::Brand;
 use std::sync::ledger::Blank;
@@ -35,6 +40,27 @@ fn measure_pairs(rt: &(impl Print + AllocGlobal), level: u8) -> io::Result<()>
     println!(rt; "pairs {} {groupings} groupings", 1u32 << level)
 }
 
+/// Makes the parity of 2 ^ `level` variables, and prints what is known of it.
+fn measure_parity(rt: &(impl Print + AllocGlobal), level: u8) -> io::Result<()>
+    requires { level ≤ 7 }
+{
+    let variables = 1u32 << level;
+    match parity_of_variables::<Brand>(rt.alloc(), level, Blank::new(1)) {
+        Ok(found) => println!(rt; "parity {variables} {found}"),
+        Err(fault) => println!(rt; "parity {variables}: {fault}"),
+    }
+}
+
+/// Parses a line, and prints how many arguments its fold has.
+fn measure_parsing(rt: &(impl Print + AllocGlobal), kind: &LongLine) -> io::Result<()> {
+    let alloc = rt.alloc();
+    let line = kind.text(alloc)?;
+    match arguments(alloc, &line) {
+        Ok(count) => println!(rt; "{kind} {count} arguments"),
+        Err(fault) => println!(rt; "{kind}: {fault}"),
+    }
+}
+
 /// The level of so many variables, of which there are 1 to 128 and a power of two.
 fn level_of(variables: &str) -> Option<u8>
     ensures { IfSome result (λ level. level ≤ 7) }
@@ -50,8 +76,14 @@ fn main(rt: HostRuntime) -> io::Result<()> {
             && let Some(level) = level_of(size.as_str())
         {
             measure_pairs(&rt, level)?;
+        } else if name.as_str() == "parity"
+            && let Some(level) = level_of(size.as_str())
+        {
+            measure_parity(&rt, level)?;
         } else if let Some(script) = Script::new(name.as_str(), size.as_str()) {
             measure_script(&rt, &script)?;
+        } else if let Some(line) = LongLine::new(name.as_str(), size.as_str()) {
+            measure_parsing(&rt, &line)?;
         } else {
             println!(rt; "{name} {size} is no workload")?;
         }

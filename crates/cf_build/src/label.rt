@@ -1,6 +1,6 @@
 //! Labels, told apart by their keys, and their ranks of first appearance.
 
-ghost use Rattle.std.specs.Prelude.{◌≡◌, List, ℕ, IfOk};
+ghost use Rattle.std.specs.Prelude.{◌≡◌, List, ℕ, All, IfOk};
 ghost use Rattle.cf_model.specs.Values.{Fits};
 ghost use Rattle.cf_model.specs.Renumbering.{IsCanon};
 ghost use Rattle.cf_build.specs.Keys.{IsWord, word_key, IsPair, pair_key, IsTriple, triple_key, value_key, IsConnection, connection_key, word_keys_differ, pair_keys_differ, triple_keys_differ, value_keys_differ, connection_keys_differ};
@@ -92,12 +92,11 @@ impl Label for BConn {
     }
 }
 
-/// The rank of first appearance of each label, and the different labels in that order.
-pub(crate) fn canon_of<T: Label>(
-    alloc: Global,
-    labels: &[T],
-) -> Result<(Vec<u64>, Vec<T>), NoMemory>
-    ensures { IfOk result (λ r. IsCanon labels.now r.0.items r.1.items) }
+/// The rank of first appearance of each label, and the different labels in that order, each of
+/// which is a label.
+pub fn canon_of<T: Label>(alloc: Global, labels: &[T]) -> Result<(Vec<u64>, Vec<T>), NoMemory>
+    ensures canon { IfOk result (λ r. IsCanon labels.now r.0.items r.1.items) }
+    ensures labels { IfOk result (λ r. All T.is_label r.1.items) }
 {
     let mut keys = IndexSet::new(alloc);
     let mut ranks = Vec::new(alloc);

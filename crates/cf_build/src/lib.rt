@@ -15,8 +15,7 @@ ghost use Rattle.cf_build.specs.Assembling.{IsRow, row_of, labels_over, classed,
 
 use cf_table::{Gid, Table};
 use cf_tuple::NoMemory;
-pub use label::Label;
-use label::canon_of;
+pub use label::{Label, canon_of};
 use merge::{join, merge};
 use rows::{all_labels, numbered_rows};
 use std::alloc::Global;

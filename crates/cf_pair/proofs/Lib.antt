@@ -2,3 +2,4 @@ pub mod Zips
 pub mod Rows
 pub mod Pairs
 pub mod Triples
+pub mod Constants

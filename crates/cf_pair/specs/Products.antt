@@ -8,6 +8,8 @@ use Rattle.cf_tuple.specs.Books.{Lengthens}
 use Rattle.cf_table.specs.declared.Gid.{Gid}
 use Rattle.cf_table.specs.Groupings.{Groupings}
 use Rattle.cf_build.specs.Assembling.{IsRow, row_of, row_labels}
+use Rattle.cf_pair.specs.declared.tripling.Place.{Place}
+use Rattle.cf_pair.specs.declared.tripling.Place.TheVariants.{First, Second, Third}
 
 -- an entry beside a pair, as a triple
 abbrev pub triple_of : ℕ × (ℕ × ℕ) → ℕ × ℕ × ℕ
@@ -16,6 +18,26 @@ triple_of t = (t.0, t.1.0, t.1.1)
 -- the triples of the entries of three lists, place by place, as `zip` gives the pairs of two
 abbrev pub zip3 : List ℕ → List ℕ → List ℕ → List (ℕ × ℕ × ℕ)
 zip3 xs ys zs = map triple_of (zip xs (zip ys zs))
+
+-- an exit beside exit 0, which comes first
+abbrev pub after_zero : ℕ → ℕ × ℕ
+after_zero e = (0, e)
+
+-- an exit beside exit 0, which comes second
+abbrev pub before_zero : ℕ → ℕ × ℕ
+before_zero e = (e, 0)
+
+-- the one of three at a place
+abbrev pub at_place : {A : Type 0} → Place → A → A → A → A
+at_place First x y z = x
+at_place Second x y z = y
+at_place Third x y z = z
+
+-- a pair of exits with exit 0 at a place among them
+abbrev pub zero_put : Place → ℕ × ℕ → ℕ × ℕ × ℕ
+zero_put First p = (0, p.0, p.1)
+zero_put Second p = (p.0, 0, p.1)
+zero_put Third p = (p.0, p.1, 0)
 
 -- the outer exits to which a pair of exits returns, by two return tuples
 abbrev pub returned2 : List ℕ → List ℕ → ℕ × ℕ → ℕ × ℕ

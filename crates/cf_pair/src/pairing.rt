@@ -1,14 +1,14 @@
 //! The recursion of the pair product: level by level, and over pairs of middle vertices.
 
-ghost use Rattle.std.specs.Prelude.{◌≡◌, ◌<◌, ◌≤◌, ◌-◌, length, map, All, IfOk, slice_index_or};
-ghost use Rattle.std.specs.List.{zip};
+ghost use Rattle.std.specs.Prelude.{◌≡◌, ◌≢◌, ◌<◌, ◌≤◌, ◌-◌, length, map, All, IfOk, MatchOption, slice_index_or};
+ghost use Rattle.std.specs.List.{zip, range_with_len};
 ghost use Rattle.cf_model.specs.Patterns.{sub};
 ghost use Rattle.cf_model.specs.Diagrams.{pattern, row, IsGood, Extends};
 ghost use Rattle.cf_tuple.specs.Books.{Lengthens};
-ghost use Rattle.cf_table.specs.Groupings.{Owns, node_of, pattern_of, connection_of};
+ghost use Rattle.cf_table.specs.Groupings.{Owns, node_of, pattern_of, exits_of, connection_of};
 ghost use Rattle.cf_table.specs.Goodness.{IsGoodOver};
 ghost use Rattle.cf_build.specs.Assembling.{HasCanon, AddsOnly};
-ghost use Rattle.cf_pair.specs.Products.{returned2, pair_word, Lists, ListEach, AddsOnlyIn};
+ghost use Rattle.cf_pair.specs.Products.{after_zero, before_zero, returned2, pair_word, Lists, ListEach, AddsOnlyIn};
 
 use cf_build::assemble;
 use cf_table::steps::Steps;
@@ -39,6 +39,53 @@ fn pair_bases(
     }
     pairs.push(last)?;
     Ok((FORK, pairs))
+}
+
+/// The pairs of exit 0 with each of so many exits, in order.
+fn pairs_after_zero(alloc: Global, exits: u64) -> Result<Vec<(u64, u64)>, NoMemory>
+    ensures { IfOk result (λ v. v.items ≡ map after_zero (range_with_len 0 exits)) }
+{
+    let mut pairs = Vec::new(alloc);
+    for exit in 0..exits {
+        pairs.push((0, exit))?;
+    }
+    Ok(pairs)
+}
+
+/// The pairs of each of so many exits with exit 0, in order.
+fn pairs_before_zero(alloc: Global, exits: u64) -> Result<Vec<(u64, u64)>, NoMemory>
+    ensures { IfOk result (λ v. v.items ≡ map before_zero (range_with_len 0 exits)) }
+{
+    let mut pairs = Vec::new(alloc);
+    for exit in 0..exits {
+        pairs.push((exit, 0))?;
+    }
+    Ok(pairs)
+}
+
+/// The product of two groupings of one level, where one of them has a single exit: the other one as
+/// it is, since exit 0 beside its exits tells no more assignments apart. None where neither has.
+fn beside_constant(
+    alloc: Global,
+    table: &Table,
+    g: Gid,
+    h: Gid,
+) -> Result<Option<(Gid, Vec<(u64, u64)>)>, NoMemory>
+    requires levels { h.level ≡ g.level }
+    requires good { IsGood table.now.levels }
+    requires first { Owns table.now g }
+    requires second { Owns table.now h }
+    ensures { IfOk result (λ o. MatchOption o ((exits_of table.now g ≢ 1) × (exits_of table.now h ≢ 1)) (λ r. HasCanon table.now.levels r.0 g.level (zip (pattern_of table.now g) (pattern_of table.now h)) r.1.items)) }
+{
+    if table.exits(g) == 1 {
+        let pairs = pairs_after_zero(alloc, table.exits(h))?;
+        return Ok(Some((h, pairs)));
+    }
+    if table.exits(h) == 1 {
+        let pairs = pairs_before_zero(alloc, table.exits(g))?;
+        return Ok(Some((g, pairs)));
+    }
+    Ok(None)
 }
 
 fn returned_pairs(
@@ -80,6 +127,9 @@ pub(crate) fn pair_groupings<L: Ledger>(
 {
     if g.level == 0 {
         return pair_bases(alloc, table, g, h);
+    }
+    if let Some(product) = beside_constant(alloc, table, g, h)? {
+        return Ok(product);
     }
     let a = table.a_of(g, steps);
     let b = table.a_of(h, steps);

@@ -1,20 +1,30 @@
 //! The recursion of the triple product, as that of the pair product.
 
-ghost use Rattle.std.specs.Prelude.{◌≡◌, ◌<◌, ◌≤◌, ◌-◌, length, map, All, IfOk, slice_index_or};
+ghost use Rattle.std.specs.Prelude.{◌≡◌, ◌≢◌, ◌<◌, ◌≤◌, ◌-◌, length, map, All, IfOk, MatchOption, slice_index_or};
+ghost use Rattle.std.specs.List.{zip};
 ghost use Rattle.cf_model.specs.Patterns.{sub};
 ghost use Rattle.cf_model.specs.Diagrams.{pattern, row, IsGood, Extends};
 ghost use Rattle.cf_tuple.specs.Books.{Lengthens};
-ghost use Rattle.cf_table.specs.Groupings.{Owns, node_of, pattern_of, connection_of};
+ghost use Rattle.cf_table.specs.Groupings.{Owns, node_of, pattern_of, exits_of, connection_of};
 ghost use Rattle.cf_table.specs.Goodness.{IsGoodOver};
 ghost use Rattle.cf_build.specs.Assembling.{HasCanon, AddsOnly};
-ghost use Rattle.cf_pair.specs.Products.{zip3, returned3, triple_word, Lists, ListEach, AddsOnlyIn};
+ghost use Rattle.cf_pair.specs.Products.{zip3, at_place, zero_put, returned3, triple_word, Lists, ListEach, AddsOnlyIn};
 
+use crate::pairing::pair_groupings;
 use cf_build::assemble;
 use cf_table::steps::Steps;
 use cf_table::{BConn, DONT_CARE, FORK, Gid, Table};
 use cf_tuple::NoMemory;
 use std::alloc::Global;
 use std::sync::ledger::Ledger;
+
+/// A place among three exits.
+#[derive(Clone, Copy)]
+enum Place {
+    First,
+    Second,
+    Third,
+}
 
 /// At level 0 bit 0 leads to exit 0, and bit 1 to the last exit.
 fn triple_bases(
@@ -41,6 +51,110 @@ fn triple_bases(
     }
     triples.push(last)?;
     Ok((FORK, triples))
+}
+
+/// The pair with exit 0 at a place.
+fn with_zero(place: Place, pair: (u64, u64)) -> (u64, u64, u64)
+    ensures { result ≡ zero_put place pair }
+{
+    let (left, right) = pair;
+    match place {
+        Place::First => (0, left, right),
+        Place::Second => (left, 0, right),
+        Place::Third => (left, right, 0),
+    }
+}
+
+fn pairs_with_zero(
+    alloc: Global,
+    place: Place,
+    pairs: &[(u64, u64)],
+) -> Result<Vec<(u64, u64, u64)>, NoMemory>
+    ensures { IfOk result (λ v. v.items ≡ map (zero_put place) pairs.now) }
+{
+    let mut triples = Vec::new(alloc);
+    for &pair in pairs {
+        triples.push(with_zero(place, pair))?;
+    }
+    Ok(triples)
+}
+
+/// The product of two groupings of one level, each pair with exit 0 at a place.
+fn pair_with_zero<L: Ledger>(
+    alloc: Global,
+    table: &mut Table,
+    place: Place,
+    g: Gid,
+    h: Gid,
+    steps: &mut Steps<L>,
+) -> Result<(Gid, Vec<(u64, u64, u64)>), NoMemory>
+    requires level { g.level ≤ 7 }
+    requires levels { h.level ≡ g.level }
+    requires good { IsGood table.old.levels }
+    requires first { Owns table.old g }
+    requires second { Owns table.old h }
+    ensures paired { IfOk result (λ r. HasCanon table.new.levels r.0 g.level (map (zero_put place) (zip (pattern_of table.old g) (pattern_of table.old h))) r.1.items) }
+    ensures added { IfOk result (λ r. AddsOnly table.old.levels table.new.levels (sub r.0.level (pattern_of table.new r.0))) }
+    ensures good { IsGood table.new.levels }
+    ensures extends { Extends table.old.levels table.new.levels }
+    ensures longer { Lengthens table.old.tuples table.new.tuples }
+{
+    let (product, pairs) = pair_groupings(alloc, table, g, h, steps)?;
+    let triples = pairs_with_zero(alloc, place, pairs.as_slice())?;
+    Ok((product, triples))
+}
+
+/// The first place among three groupings of one that has a single exit.
+fn place_of_constant(table: &Table, f: Gid, g: Gid, h: Gid) -> Option<Place>
+    requires first { Owns table.now f }
+    requires second { Owns table.now g }
+    requires third { Owns table.now h }
+    ensures { MatchOption result
+        ((exits_of table.now f ≢ 1) × (exits_of table.now g ≢ 1) × (exits_of table.now h ≢ 1))
+        (λ place. exits_of table.now (at_place place f g h) ≡ 1) }
+{
+    if table.exits(f) == 1 {
+        return Some(Place::First);
+    }
+    if table.exits(g) == 1 {
+        return Some(Place::Second);
+    }
+    if table.exits(h) == 1 {
+        return Some(Place::Third);
+    }
+    None
+}
+
+/// The product of three groupings of one level, the one at a place having a single exit: that of the
+/// other two, with exit 0 at that place.
+fn beside_constant<L: Ledger>(
+    alloc: Global,
+    table: &mut Table,
+    place: Place,
+    f: Gid,
+    g: Gid,
+    h: Gid,
+    steps: &mut Steps<L>,
+) -> Result<(Gid, Vec<(u64, u64, u64)>), NoMemory>
+    requires level { f.level ≤ 7 }
+    requires second_level { g.level ≡ f.level }
+    requires third_level { h.level ≡ f.level }
+    requires good { IsGood table.old.levels }
+    requires first { Owns table.old f }
+    requires second { Owns table.old g }
+    requires third { Owns table.old h }
+    requires constant { exits_of table.old (at_place place f g h) ≡ 1 }
+    ensures tripled { IfOk result (λ r. HasCanon table.new.levels r.0 f.level (zip3 (pattern_of table.old f) (pattern_of table.old g) (pattern_of table.old h)) r.1.items) }
+    ensures added { IfOk result (λ r. AddsOnly table.old.levels table.new.levels (sub r.0.level (pattern_of table.new r.0))) }
+    ensures good { IsGood table.new.levels }
+    ensures extends { Extends table.old.levels table.new.levels }
+    ensures longer { Lengthens table.old.tuples table.new.tuples }
+{
+    match place {
+        Place::First => pair_with_zero(alloc, table, place, g, h, steps),
+        Place::Second => pair_with_zero(alloc, table, place, f, h, steps),
+        Place::Third => pair_with_zero(alloc, table, place, f, g, steps),
+    }
 }
 
 fn returned_triples(
@@ -90,6 +204,9 @@ pub(crate) fn triple_groupings<L: Ledger>(
 {
     if f.level == 0 {
         return triple_bases(alloc, table, f, g, h);
+    }
+    if let Some(place) = place_of_constant(table, f, g, h) {
+        return beside_constant(alloc, table, place, f, g, h, steps);
     }
     let a = table.a_of(f, steps);
     let b = table.a_of(g, steps);

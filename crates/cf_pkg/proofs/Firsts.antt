@@ -24,7 +24,7 @@ smaller w x j h k other = elim (cases_lt x j) [
 ]
 
 -- before a number is first reached, there are only smaller ones
-before_first : (w : ℕ) (p : List ℕ) (n j : ℕ) → Grows w p → w ≤ j → n < length p → ((m : ℕ) → m < n → get_or p m 0 ≡ j → ⊥) → (m : ℕ) → m < n → get_or p m 0 < j
+pub before_first : (w : ℕ) (p : List ℕ) (n j : ℕ) → Grows w p → w ≤ j → n < length p → ((m : ℕ) → m < n → get_or p m 0 ≡ j → ⊥) → (m : ℕ) → m < n → get_or p m 0 < j
 before_first w [] n j g h ln none m lm = absurd (omega (arith, ln))
 before_first w (x ∷ p) zero j g h ln none m lm = absurd (omega (arith, lm))
 before_first w (x ∷ p) (suc n) j g h ln none zero lm = smaller w x j g.0 h (none 0 (omega arith))

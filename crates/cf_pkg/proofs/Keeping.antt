@@ -50,7 +50,7 @@ all_kept P before now item at i all h = elim i.grown [
 ]
 
 -- what a grouping and an interned list of values mean
-means : (q : Package) (g : Gid) (at l : ℕ) (ranks : List ℕ) (values target : List ℤ) → Stands q.groupings.levels g l ranks → slice_get q.lists at ≡ Some values
+pub means : (q : Package) (g : Gid) (at l : ℕ) (ranks : List ℕ) (values target : List ℤ) → Stands q.groupings.levels g l ranks → slice_get q.lists at ≡ Some values
     → length values ≡ exits q.groupings.levels g.level g.at → map (λ exit. get_or values exit (pos 0)) ranks ≡ target
     → Means q (record { head = g; vals = record { at = at } }) (flat l target)
 means q g at l ranks values target s h long e =

@@ -5,3 +5,12 @@ pub mod Counts
 pub mod Made
 pub mod Keeping
 pub mod Firsts
+pub mod ExitWork
+pub mod Valued
+pub mod Members
+pub mod Reaching
+pub mod Sizing
+pub mod Heading
+pub mod Works
+pub mod Added
+pub mod Making

@@ -1,8 +1,9 @@
 use Rattle.std.specs.Prelude.{◌≡◌, ◌<◌, ℤ, List, [], length, slice_index_or as get_or}
 use Rattle.cf_model.specs.FlatFunctions.{FlatFunction}
+use Rattle.cf_model.specs.Patterns.{Pattern, sub}
 use Rattle.cf_model.specs.Diagrams.{Extends}
 use Rattle.cf_model.specs.Functions.{function_of}
-use Rattle.cf_table.specs.Groupings.{Groupings, only_base, Owns, exits_of}
+use Rattle.cf_table.specs.Groupings.{Groupings, only_base, Owns, exits_of, pattern_of}
 use Rattle.cf_tuple.specs.Books.{Lengthens as KeepsTuples}
 use Rattle.cf_values.specs.Books.{Lengthens}
 use Rattle.cf_pkg.specs.declared.Func.{Func}
@@ -11,6 +12,10 @@ use Rattle.cf_pkg.specs.declared.Func.{Func}
 pub record Package : Type 0 where
   pub groupings : Groupings
   pub lists : List (List ℤ)
+
+-- the package of these groupings and these lists of values
+abbrev pub package_of : Groupings → List (List ℤ) → Package
+package_of t lists = record { groupings = t; lists = lists }
 
 -- the package without a function: the two groupings of level 0, and no list of values
 abbrev pub no_function : Package
@@ -41,3 +46,7 @@ pub record Keeps (before now : Package) : Type 0 where
   pub tuples : KeepsTuples before.groupings.tuples now.groupings.tuples
   pub lists : Lengthens before.lists now.lists
   pub functions : (f : Func) → OwnsFunction before f → Means now f (meaning before f)
+
+-- all that the pattern of a function's grouping is made of
+abbrev pub function_parts : Package → Func → List Pattern
+function_parts p f = sub f.head.level (pattern_of p.groupings f.head)

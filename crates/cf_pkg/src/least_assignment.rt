@@ -9,7 +9,7 @@ ghost use Rattle.cf_pkg.specs.Firsts.{IsFirstAt};
 use cf_bits::Bits;
 use cf_table::steps::Steps;
 use cf_table::{Gid, Table};
-use std::sync::ledger::Ledger;
+use std::sync::ledger::{Blank, Ledger};
 
 /// How many assignments a level has.
 fn assignments(level: u8) -> u128
@@ -70,6 +70,19 @@ pub fn least<L: Ledger>(table: &Table, g: Gid, e: u64, steps: &mut Steps<L>) -> 
     let level = level_within(table, g);
     let number = least_number(table, g, e, steps);
     Bits::new(variables(level), number)
+}
+
+/// The same, with a counter of its own.
+pub(crate) fn least_uncounted<L: Ledger>(table: &Table, g: Gid, e: u64, blank: Blank) -> Bits
+    requires owned { Owns table.now g }
+    requires exit { e < exits_of table.now g }
+    requires name { blank.name ≡ L.name }
+    requires parts { blank.parts ≡ L.parts }
+    requires some { 0 < blank.parts }
+    ensures { IsLeast g.level (λ at. slice_get (pattern_of table.now g) (number_of at) ≡ Some e) (bits result) }
+{
+    let mut steps = Steps::<L>::open(blank);
+    least(table, g, e, &mut steps)
 }
 
 /// The level of a grouping.

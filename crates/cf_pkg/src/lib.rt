@@ -2,8 +2,15 @@
 #![tactic(auto)]
 
 mod basics;
+mod exits;
+mod jobs;
 mod least_assignment;
+#[cfg(test)]
+mod operation_tests;
+mod operations;
+mod reached;
 mod walk;
+mod words;
 
 ghost use Rattle.std.specs.Prelude.{◌≡◌, ◌<◌, ◌≤◌, ◌+◌, ◌-◌, ◌*◌, ◌^◌, ◌↔◌, List, Bool, IsTrue, IfOk, Some};
 ghost use Rattle.cf_model.specs.Assignments.{bits};
@@ -20,7 +27,9 @@ use cf_table::steps::Steps;
 use cf_table::{Gid, Table};
 use cf_tuple::NoMemory;
 use cf_values::{ValueBook, Vid};
+pub use jobs::{Job, OpFault, Recipe};
 pub use least_assignment::least;
+pub use reached::Sizes;
 use std::alloc::Global;
 use std::marker::Model;
 use std::sync::ledger::Ledger;

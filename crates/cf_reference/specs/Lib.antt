@@ -4,3 +4,16 @@ pub mod Refusals
 pub mod Statements
 pub mod Steps
 pub mod Run
+pub mod Words
+pub mod Trees
+pub mod Grammar
+pub mod LineRefusals
+pub mod Reasons
+pub mod States
+pub mod Expressions
+pub mod Failures
+pub mod Parsing
+pub mod Answers
+pub mod Carrying
+pub mod Scripts
+pub mod Gives

@@ -2,8 +2,8 @@ use Rattle.std.specs.Prelude.{ℕ, List, [], ◌∷◌, ◌++◌, decimal, codes
 use Rattle.std.specs.List.{join_with_byte}
 use Rattle.cf_model.specs.Assignments.{bits, digits_of}
 use Rattle.cf_reference.specs.Replies.{refusal}
-use Rattle.cf_text.specs.declared.Detail.{Detail}
-use Rattle.cf_text.specs.declared.Detail.TheVariants.{Nothing, At, One, Two, Named}
+use Rattle.cf_text.specs.declared.refusals.Detail.{Detail}
+use Rattle.cf_text.specs.declared.refusals.Detail.TheVariants.{Nothing, At, One, Two, Named}
 
 -- the words of a detail; behind those of `Named` a name follows
 abbrev pub detail_words : Detail → List (List ℕ)

@@ -25,7 +25,7 @@ join-requires-clause-loose g c =
     let ranks = c.as_slice-2.result.now in
     let shape : map frame numbered ≡ map frame c.args.rows.now = ap (λ (v : List _). map frame v) c.as_slice-3.ensures.value ∙ c.in_ok-numbered.ensures.shape in
     let flat : all_returns (map row_connection numbered) ≡ ranks = words_map (λ (b : Connection). b.returns) row_connection numbered ∙ ap (λ (v : List _). flat_map (λ r. r.1.items) v) c.as_slice-3.ensures.value ∙ c.in_ok-numbered.ensures.flat in
-    let canon : IsCanon c.as_slice.result.now ranks c.in_ok-ranks.different.items = subst (λ (v : List ℕ). IsCanon c.as_slice.result.now v c.in_ok-ranks.different.items) (sym c.as_slice-2.ensures.value) c.in_ok-ranks.ensures in
+    let canon : IsCanon c.as_slice.result.now ranks c.in_ok-ranks.different.items = subst (λ (v : List ℕ). IsCanon c.as_slice.result.now v c.in_ok-ranks.different.items) (sym c.as_slice-2.ensures.value) c.in_ok-ranks.ensures.canon in
     numbered_loose t l c.args.a.at c.args.rows.now numbered ranks c.requires.owned c.requires.middles c.requires.rows shape flat canon.grows
 
 pub returns-clause-assembled : goal.returns-clause-assembled
@@ -38,7 +38,7 @@ returns-clause-assembled g c =
     let rows = c.args.rows.now in
     let shape : map frame numbered ≡ map frame rows = ap (λ (v : List _). map frame v) c.as_slice-3.ensures.value ∙ c.in_ok-numbered.ensures.shape in
     let flat : all_returns (map row_connection numbered) ≡ ranks = words_map (λ (b : Connection). b.returns) row_connection numbered ∙ ap (λ (v : List _). flat_map (λ r. r.1.items) v) c.as_slice-3.ensures.value ∙ c.in_ok-numbered.ensures.flat in
-    let canon : IsCanon c.as_slice.result.now ranks ds = subst (λ (v : List ℕ). IsCanon c.as_slice.result.now v ds) (sym c.as_slice-2.ensures.value) c.in_ok-ranks.ensures in
+    let canon : IsCanon c.as_slice.result.now ranks ds = subst (λ (v : List ℕ). IsCanon c.as_slice.result.now v ds) (sym c.as_slice-2.ensures.value) c.in_ok-ranks.ensures.canon in
     let all : c.as_slice.result.now ≡ flat_map (λ r. r.1) (map row_of rows) = c.as_slice.ensures.value ∙ c.in_ok-all.ensures ∙ sym (words_map (λ r. r.1) row_of rows) in
     let loosed = numbered_loose t l c.args.a.at rows numbered ranks c.requires.owned c.requires.middles c.requires.rows shape flat canon.grows in
     let spelled : IsCanon (labels_over (pattern t l) c.args.a.at (map row_of rows)) (spell (pattern t l) (loose_node c.args.a.at numbered)) ds =

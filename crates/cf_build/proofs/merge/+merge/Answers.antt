@@ -24,7 +24,7 @@ pub join-merge-requires : goal.join-merge-requires
 join-merge-requires t c =
     let l = c.args.a.level in
     let owned : c.args.a.at < count c.thin_rows.new.table.levels l = omega (arith, c.requires.loose.callee_exists, c.in_ok-conns.ensures.extends.more l) in
-    let canon : IsCanon c.as_slice.result.now c.in_ok-classes.classes.items c.in_ok-classes.bs.items = c.in_ok-classes.ensures in
+    let canon : IsCanon c.as_slice.result.now c.in_ok-classes.classes.items c.in_ok-classes.bs.items = c.in_ok-classes.ensures.canon in
     let rows : length c.in_ok-conns.conns.items ≡ length (map row_connection c.args.rows.now) = c.in_ok-conns.ensures.thin.long in
     let long : length c.as_slice-2.result.now ≡ exits c.thin_rows.new.table.levels l c.args.a.at =
     ap length c.as_slice-2.ensures.value ∙ canon_length _ _ _ canon ∙ ap length c.as_slice.ensures.value ∙ rows ∙ c.requires.loose.middles ∙ sym (exits_kept c.args.table.now.levels c.thin_rows.new.table.levels c.in_ok-conns.ensures.extends l c.args.a.at c.requires.loose.callee_exists) in
@@ -42,7 +42,7 @@ join-intern-requires t c =
       good1 = c.in_ok-conns.ensures.good;
       extends1 = c.in_ok-conns.ensures.extends;
       thin = subst (λ (v : List BConn). AreThin c.thin_rows.new.table l (pattern c.args.table.now.levels l) (map row_connection c.args.rows.now) v) (sym c.as_slice.ensures.value) c.in_ok-conns.ensures.thin;
-      canon = subst (λ (v : List ℕ). IsCanon c.as_slice.result.now v c.as_slice-3.result.now) (sym c.as_slice-2.ensures.value) (subst (λ (v : List BConn). IsCanon c.as_slice.result.now c.in_ok-classes.classes.items v) (sym c.as_slice-3.ensures.value) c.in_ok-classes.ensures);
+      canon = subst (λ (v : List ℕ). IsCanon c.as_slice.result.now v c.as_slice-3.result.now) (sym c.as_slice-2.ensures.value) (subst (λ (v : List BConn). IsCanon c.as_slice.result.now c.in_ok-classes.classes.items v) (sym c.as_slice-3.ensures.value) c.in_ok-classes.ensures.canon);
       good2 = c.in_ok-callee.ensures.good;
       extends2 = c.in_ok-callee.ensures.extends;
       longer2 = c.in_ok-callee.ensures.longer;
@@ -69,7 +69,7 @@ join-returns-clause-joined t c =
       good1 = c.in_ok-conns.ensures.good;
       extends1 = c.in_ok-conns.ensures.extends;
       thin = subst (λ (v : List BConn). AreThin c.thin_rows.new.table l (pattern c.args.table.now.levels l) (map row_connection c.args.rows.now) v) (sym c.as_slice.ensures.value) c.in_ok-conns.ensures.thin;
-      canon = subst (λ (v : List ℕ). IsCanon c.as_slice.result.now v c.as_slice-3.result.now) (sym c.as_slice-2.ensures.value) (subst (λ (v : List BConn). IsCanon c.as_slice.result.now c.in_ok-classes.classes.items v) (sym c.as_slice-3.ensures.value) c.in_ok-classes.ensures);
+      canon = subst (λ (v : List ℕ). IsCanon c.as_slice.result.now v c.as_slice-3.result.now) (sym c.as_slice-2.ensures.value) (subst (λ (v : List BConn). IsCanon c.as_slice.result.now c.in_ok-classes.classes.items v) (sym c.as_slice-3.ensures.value) c.in_ok-classes.ensures.canon);
       good2 = c.in_ok-callee.ensures.good;
       extends2 = c.in_ok-callee.ensures.extends;
       longer2 = c.in_ok-callee.ensures.longer;
@@ -104,7 +104,7 @@ pub thin-returns-clause-thin : goal.thin-returns-clause-thin
 thin-returns-clause-thin t c =
     thinned c.args.table.now c.merge.new.table c.intern_tuple.new.self c.args.g.level c.args.g.at c.args.labels.now c.as_slice.result.now c.as_slice-2.result.now c.in_ok-to.to c.in_ok-ret.ret.at _
     c.requires.good c.in_ok-to.ensures.good c.in_ok-ret.ensures.levels c.requires.owned c.requires.entries
-    (subst (λ (v : List ℕ). IsCanon c.args.labels.now v c.as_slice-2.result.now) (sym c.as_slice.ensures.value) (subst (λ (v : List ℕ). IsCanon c.args.labels.now c.in_ok-ranks.ranks.items v) (sym c.as_slice-2.ensures.value) c.in_ok-ranks.ensures))
+    (subst (λ (v : List ℕ). IsCanon c.args.labels.now v c.as_slice-2.result.now) (sym c.as_slice.ensures.value) (subst (λ (v : List ℕ). IsCanon c.args.labels.now c.in_ok-ranks.ranks.items v) (sym c.as_slice-2.ensures.value) c.in_ok-ranks.ensures.canon))
     c.in_ok-to.ensures.merged c.in_ok-ret.ensures.interned refl refl
 
 pub thin_rows-thin-requires : goal.thin_rows-thin-requires
@@ -154,7 +154,7 @@ join-returns-clause-added t c =
     let bs = c.as_slice-3.result.now in
     let classes = c.in_ok-classes.classes.items in
     let thin = c.in_ok-conns.ensures.thin in
-    let canon : IsCanon all classes bs = subst (λ (w : List BConn). IsCanon w classes bs) c.as_slice.ensures.value (subst (λ (w : List BConn). IsCanon c.as_slice.result.now classes w) (sym c.as_slice-3.ensures.value) c.in_ok-classes.ensures) in
+    let canon : IsCanon all classes bs = subst (λ (w : List BConn). IsCanon w classes bs) c.as_slice.ensures.value (subst (λ (w : List BConn). IsCanon c.as_slice.result.now classes w) (sym c.as_slice-3.ensures.value) c.in_ok-classes.ensures.canon) in
     let ca : a < count u l = subst (λ (x : ℕ). a < count u x) m.level m.there in
     let aa : AddsParts s u l a = subst (λ (x : ℕ). AddsParts s u x a) m.level c.in_ok-callee.ensures.added in
     if_ok2 c.intern.result _ _ _ c.intern.ensures.level c.intern.ensures.interned (λ g e h.

@@ -1,6 +1,6 @@
 use Rattle.std.proofs.Common.{ap, subst, ◌∙◌}
 use Rattle.cf_text.specs.Details.{refused_bytes}
-use Rattle.cf_text.specs.declared.Detail.TheVariants.{Nothing}
+use Rattle.cf_text.specs.declared.refusals.Detail.TheVariants.{Nothing}
 use Rattle.cf_top.specs.Ends.{AppendsFront}
 use Rattle.cf_top.proofs.Following.{front_of_take}
 use Rattle.cf_top.proofs.script.refuse.Goals as goal

@@ -1,0 +1,123 @@
+use cf_ops::{Word1, Word2};
+use cf_script::{Expr, Exprs, ScriptFault, Statement};
+use std::{fmt, str};
+
+/// How many calls are spelled inside one another. No statement has more than 64.
+const DEEPEST: u8 = 65;
+
+/// What a line comes to: its statement, spelled with one blank behind each word and comma and numbers without leading
+/// zeros, or the number of its refusal.
+#[derive(Drop)]
+pub struct Outcome<'a> {
+    parsed: Result<Statement<'a>, ScriptFault>,
+}
+
+impl<'a> Outcome<'a> {
+    pub fn new(parsed: Result<Statement<'a>, ScriptFault>) -> Outcome<'a> {
+        Outcome { parsed }
+    }
+}
+
+impl fmt::Display for Outcome<'_> {
+    fn fmt<W: fmt::Write>(&self, f: &mut fmt::Formatter<W>) -> fmt::Result {
+        match &self.parsed {
+            Ok(statement) => spell(f, statement),
+            Err(ScriptFault::Malformed) => f.write_str("refused 1"),
+            Err(ScriptFault::WideNumber) => f.write_str("refused 12"),
+            Err(ScriptFault::TooDeep) => f.write_str("refused 13"),
+            Err(ScriptFault::NoMemory) => f.write_str("no memory"),
+        }
+    }
+}
+
+fn spell<W: fmt::Write>(f: &mut fmt::Formatter<W>, statement: &Statement) -> fmt::Result {
+    match statement {
+        Statement::Empty => f.write_str("empty"),
+        Statement::Level(level) => write!(f, "level {level}"),
+        Statement::Vars(names) => spell_vars(f, names.items()),
+        Statement::Let(name, e) => {
+            write!(f, "let {} = ", text(name))?;
+            spell_expr(f, e, DEEPEST)
+        }
+        Statement::Value(name, bits) => write!(f, "value {} {}", text(name), text(bits)),
+        Statement::First(name, value) => write!(f, "first {} {value}", text(name)),
+        Statement::List(name, value, most) => write!(f, "list {} {value} {most}", text(name)),
+        Statement::Equal(name, other) => write!(f, "equal {} {}", text(name), text(other)),
+        Statement::Size(name) => write!(f, "size {}", text(name)),
+        Statement::Stats => f.write_str("stats"),
+    }
+}
+
+/// The text of a name or of bits, which are ASCII.
+fn text(word: &[u8]) -> &str {
+    str::from_utf8(word).unwrap_or("?")
+}
+
+fn spell_vars<W: fmt::Write>(f: &mut fmt::Formatter<W>, names: &[&[u8]]) -> fmt::Result {
+    f.write_str("var")?;
+    for name in names {
+        write!(f, " {}", text(name))?;
+    }
+    Ok(())
+}
+
+/// Spells an expression with at most `depth` calls inside one another.
+#[cycle(calls)]
+fn spell_expr<W: fmt::Write>(f: &mut fmt::Formatter<W>, e: &Expr, depth: u8) -> fmt::Result {
+    if depth == 0 {
+        return f.write_str("..");
+    }
+    match e {
+        Expr::Num(value) => write!(f, "{value}"),
+        Expr::At(position) => write!(f, "@{position}"),
+        Expr::Named(name) => f.write_str(text(name)),
+        Expr::Const(level, value) => write!(f, "const({level}, {value})"),
+        Expr::One(word, e) => {
+            write!(f, "{}(", word1(*word))?;
+            spell_expr(f, e, depth - 1)?;
+            f.write_str(")")
+        }
+        Expr::Fold(word, es) => spell_call(f, word2(*word), es, depth - 1),
+        Expr::Ite(es) => spell_call(f, "ite", es, depth - 1),
+    }
+}
+
+/// Spells a call of a word with arguments.
+#[cycle(calls)]
+fn spell_call<W: fmt::Write>(
+    f: &mut fmt::Formatter<W>,
+    word: &str,
+    es: &Exprs,
+    depth: u8,
+) -> fmt::Result {
+    write!(f, "{word}(")?;
+    for (i, e) in es.items().iter().enumerate() {
+        if i > 0 {
+            f.write_str(", ")?;
+        }
+        spell_expr(f, e, depth)?;
+    }
+    f.write_str(")")
+}
+
+fn word1(word: Word1) -> &'static str {
+    match word {
+        Word1::Not => "not",
+        Word1::Neg => "neg",
+    }
+}
+
+fn word2(word: Word2) -> &'static str {
+    match word {
+        Word2::And => "and",
+        Word2::Or => "or",
+        Word2::Xor => "xor",
+        Word2::Plus => "plus",
+        Word2::Minus => "minus",
+        Word2::Times => "times",
+        Word2::Min => "min",
+        Word2::Max => "max",
+        Word2::Eq => "eq",
+        Word2::Lt => "lt",
+    }
+}

@@ -1,0 +1,22 @@
+use Rattle.std.specs.Prelude.{ℕ, List, ◌==◌, ◌&&◌, Bool}
+use Rattle.std.specs.List.{zip}
+use Rattle.cf_model.specs.Renumbering.{rgs}
+use Rattle.cf_model.specs.Patterns.{Pattern, sub}
+use Rattle.cf_model.specs.PairSums.{same_pair}
+use Rattle.cf_table.specs.Groupings.{pattern_of}
+use Rattle.cf_pair.specs.Products.{zip3}
+use Rattle.cf_pkg.specs.declared.Func.{Func}
+use Rattle.cf_pkg.specs.Packages.{Package}
+
+-- whether two triples are equal
+abbrev pub same_triple : ℕ × ℕ × ℕ → ℕ × ℕ × ℕ → Bool
+same_triple s t = s.0 == t.0 && (s.1 == t.1 && s.2 == t.2)
+
+-- all that the product of two functions' groupings is made of, the pattern of the pairs of their exits
+abbrev pub pair_parts : Package → Func → Func → List Pattern
+pair_parts p f g = sub f.head.level (rgs same_pair (zip (pattern_of p.groupings f.head) (pattern_of p.groupings g.head)))
+
+-- the same for three functions
+abbrev pub triple_parts : Package → Func → Func → Func → List Pattern
+triple_parts p f g h =
+    sub f.head.level (rgs same_triple (zip3 (pattern_of p.groupings f.head) (pattern_of p.groupings g.head) (pattern_of p.groupings h.head)))

@@ -1,0 +1,123 @@
+-- The grammar on worked lines.
+use Rattle.std.proofs.Common.{◌≡◌, ◌∷◌, ◌++◌, [], true, false, refl, Some, None, arith}
+use Rattle.std.specs.Prelude.{codes, pos, negsuc}
+use Rattle.cf_model.specs.declared.terms.Word1.TheVariants.{Not}
+use Rattle.cf_model.specs.declared.terms.Word2.TheVariants.{And, Minus, Plus}
+use Rattle.cf_reference.specs.declared.grammar.Keyword.TheVariants as keyword
+use Rattle.cf_reference.specs.Words.{before_comment, words, words_of_line, open_sign, close_sign, comma, natural, number, place, is_name, is_bits}
+use Rattle.cf_reference.specs.Trees.{Num, At, Named, Const, One, Fold, none, more, takes, depth, statement_fits, Empty, Level, Vars, Let, Value}
+use Rattle.cf_reference.specs.Grammar.{call_of, keyword_of, leaf, Spells}
+use Rattle.cf_reference.specs.LineRefusals.{IsDeep, Good, Malformed, WideNumber, TooDeep}
+use Rattle.cf_reference.specs.Parsing.{readers, statement_at, is_deep, parse}
+
+-- blanks and a comment
+blank_line : words_of_line (9 ∷ 32 ∷ codes "# level 1") ≡ []
+unfolding before_comment words
+blank_line = refl
+
+empty_line : Spells (codes "  # nothing") Empty
+unfolding before_comment words
+empty_line = record { words = refl }
+
+-- a word is as long as it can be, and each sign is a word
+call_words : words_of_line (codes "let f=and (a,@1)") ≡ codes "let" ∷ codes "f" ∷ codes "=" ∷ codes "and" ∷ open_sign ∷ codes "a" ∷ comma ∷ codes "@1" ∷ close_sign ∷ []
+unfolding before_comment words
+call_words = refl
+
+-- a vertical tab is no blank
+vertical_tab : words (97 ∷ 11 ∷ 98 ∷ []) ≡ (97 ∷ 11 ∷ 98 ∷ []) ∷ []
+unfolding words
+vertical_tab = refl
+
+-- words that are none of the grammar's
+no_leaves : (leaf (codes "1a") ≡ None) × (leaf (codes "@0x") ≡ None) × (leaf (codes "@0@1") ≡ None) × (leaf (codes "a@0") ≡ None) × (leaf (codes "-") ≡ None) × (leaf (97 ∷ 128 ∷ []) ≡ None)
+unfolding leaf number place natural is_name
+no_leaves = (refl, refl, refl, refl, refl, refl)
+
+-- leading zeros are allowed, and numbers are of any size
+leaves : (leaf (codes "-007") ≡ Some (Num (negsuc 6))) × (leaf (codes "-0") ≡ Some (Num (pos 0))) × (leaf (codes "@010") ≡ Some (At (pos 10))) × (leaf (codes "and") ≡ Some (Named (codes "and")))
+unfolding leaf number place natural is_name
+leaves = (refl, refl, refl, refl)
+
+wide : (leaf (codes "170141183460469231731687303715884105728") ≡ Some (Num (pos 170141183460469231731687303715884105728))) × (statement_fits (Level (pos 170141183460469231731687303715884105728)) ≡ false)
+unfolding leaf number natural
+wide = (refl, refl)
+
+no_bits : is_bits (codes "012") ≡ false
+unfolding is_bits
+no_bits = refl
+
+-- keywords and call words are names
+let_and : Spells (codes "let and = @0") (Let (codes "and") (At (pos 0)))
+unfolding before_comment words keyword_of leaf number place natural is_name
+let_and = record {
+  words = (keyword.Let, refl, (codes "and", At (pos 0), codes "@0" ∷ [], refl, refl, record { word = codes "@0"; words = refl; alone = refl; is = refl }, refl));
+}
+
+-- a blank may stand before `(`
+let_call : Spells (codes "let f = not (const(2,-1))") (Let (codes "f") (One Not (Const (pos 2) (negsuc 0))))
+unfolding before_comment words keyword_of call_of number natural is_name
+let_call = record {
+  words = (
+    keyword.Let,
+    refl,
+    (
+      codes "f",
+      One Not (Const (pos 2) (negsuc 0)),
+      codes "not" ∷ open_sign ∷ codes "const" ∷ open_sign ∷ codes "2" ∷ comma ∷ codes "-1" ∷ close_sign ∷ close_sign ∷ [],
+      refl,
+      refl,
+      (
+        codes "const" ∷ open_sign ∷ codes "2" ∷ comma ∷ codes "-1" ∷ close_sign ∷ close_sign ∷ [],
+        record { word = codes "not"; words = refl; is = refl },
+        (
+          codes "2" ∷ comma ∷ codes "-1" ∷ close_sign ∷ close_sign ∷ [],
+          record { word = codes "const"; words = refl; is = refl },
+          record { first = codes "2"; second = codes "-1"; words = refl; level = refl; value = refl },
+        ),
+      ),
+      refl,
+    ),
+  );
+}
+
+-- a fold of one argument is none, and `minus` takes exactly two
+arguments : (takes And 1 ≡ false) × (takes And 3 ≡ true) × (takes Minus 3 ≡ false)
+arguments = (refl, refl, refl)
+
+-- a fold of any length is one call
+one_call : depth (Fold Plus (more (Num (pos 1)) (more (Num (pos 2)) (more (Num (pos 3)) none)))) ≡ 1
+one_call = refl
+
+-- sixty-five open parentheses are too deep, whatever comes after them
+too_deep : IsDeep (codes "(((((((((((((((((((((((((((((((((((((((((((((((((((((((((((((((((" ++ codes "))")
+too_deep = (65, omega arith)
+
+-- whole lines
+level_line : parse (codes "level 007 # seven") ≡ Good (Level (pos 7))
+unfolding before_comment words is_deep statement_at keyword_of natural
+level_line = refl
+
+value_line : (parse (codes "value f 01") ≡ Good (Value (codes "f") (codes "01"))) × (parse (codes "value f 012") ≡ Malformed)
+unfolding before_comment words is_deep statement_at keyword_of is_name is_bits
+value_line = (refl, refl)
+
+vars_line : (parse (codes "var a b") ≡ Good (Vars (codes "a" ∷ codes "b" ∷ []))) × (parse (codes "var a,b") ≡ Malformed) × (parse (codes "var") ≡ Malformed)
+unfolding before_comment words is_deep statement_at keyword_of is_name
+vars_line = (refl, refl, refl)
+
+fold_line : parse (codes "let f = and(x,@1)") ≡ Good (Let (codes "f") (Fold And (more (Named (codes "x")) (more (At (pos 1)) none))))
+unfolding before_comment words is_deep statement_at readers keyword_of call_of leaf number place natural is_name
+fold_line = refl
+
+-- a fold of one argument, three arguments of `minus`, a word behind the expression, and a form that isn't built
+malformed_lines : (parse (codes "let f = and(x)") ≡ Malformed) × (parse (codes "let f = minus(1,2,3)") ≡ Malformed) × (parse (codes "let f = x y") ≡ Malformed) × (parse (codes "let f = exists(x,y)") ≡ Malformed)
+unfolding before_comment words is_deep statement_at readers keyword_of call_of leaf number place natural is_name
+malformed_lines = (refl, refl, refl, refl)
+
+-- a number that doesn't fit yields to a line's form, and both yield to its parentheses
+refused_lines : (parse (codes "level 170141183460469231731687303715884105728") ≡ WideNumber) × (parse (codes "level 170141183460469231731687303715884105728 7") ≡ Malformed)
+    × (parse (codes "x ((((((((((((((((((((((((((((((((((((((((((((((((((((((((((((((((( 9") ≡ TooDeep)
+    × (parse (codes "x (((((((((((((((((((((((((((((((((((((((((((((((((((((((((((((((( 9") ≡ Malformed)
+unfolding before_comment words is_deep statement_at keyword_of natural
+refused_lines = (refl, refl, refl, refl)

@@ -1,0 +1,154 @@
+-- How names are bound.
+use Rattle.std.proofs.Common.{ℕ, ◌≡◌, ◌≤◌, Bool, true, false, cond, List, [], ◌∷◌, ◌++◌, length, Some, None, refl, ap, sym, ◌∙◌}
+use Rattle.std.specs.Prelude.{◌==◌, ◌&&◌, ◌||◌, nat_le}
+use Rattle.std.specs.List.{list_any, list_all}
+use Rattle.std.specs.Option.{option_or, option_map}
+use Rattle.std.specs.Str.{bytes_eq}
+use Rattle.std.proofs.lemmas.Bool.{false≢true}
+use Rattle.std.proofs.lemmas.Slice.Eq.{bytes_eq-Decides}
+use Rattle.cf_model.specs.Assignments.{bits_of_text, are_digits}
+use Rattle.cf_model.specs.Renumbering.{place}
+use Rattle.cf_model.specs.FlatFunctions.{FlatFunction, variable}
+use Rattle.cf_reference.specs.Words.{is_bits}
+use Rattle.cf_reference.specs.States.{State, level_in, is_among, position_of, function_named, bind, named, is_bound, repeats}
+use Rattle.cf_reference.specs.Answers.{spelled}
+use Rattle.cf_reference.specs.Carrying.{clashes}
+use Rattle.cf_reference.proofs.TestFacts.{same_bytes, left, right, is_le}
+
+equal_bytes : (xs ys : List ℕ) → xs ≡ ys → bytes_eq xs ys ≡ true
+equal_bytes xs ys e = (bytes_eq-Decides xs ys).1 e
+
+same_true : (a b : Bool) → (a ≡ true → b ≡ true) → (b ≡ true → a ≡ true) → a ≡ b
+same_true true b h k = sym (h refl)
+same_true false true h k = k refl
+same_true false false h k = refl
+
+-- the order of two texts doesn't matter
+pub turned_bytes : (xs ys : List ℕ) → bytes_eq xs ys ≡ bytes_eq ys xs
+turned_bytes xs ys =
+    same_true (bytes_eq xs ys) (bytes_eq ys xs)
+    (λ h. equal_bytes ys xs (sym (same_bytes xs ys h))) (λ h. equal_bytes xs ys (sym (same_bytes ys xs h)))
+
+-- what a name stands for among functions, once a name is bound
+pub function_named-bind : (fs : List (List ℕ × FlatFunction)) (name : List ℕ) (f : FlatFunction) (other : List ℕ)
+    → function_named (bind fs name f) other ≡ cond (bytes_eq other name) (Some f) (function_named fs other)
+function_named-bind [] name f other = refl
+function_named-bind (b ∷ bs) name f other = by (bytes_eq name b.0) refl (function_named-bind bs name f other)
+  where
+    same : (t : Bool) → bytes_eq other b.0 ≡ t → bytes_eq name b.0 ≡ true
+        → cond t (Some f) (function_named bs other) ≡ cond t (Some f) (cond t (Some b.1) (function_named bs other))
+    same true e h = refl
+    same false e h = refl
+
+    apart : (t u : Bool) → bytes_eq other b.0 ≡ t → bytes_eq other name ≡ u → bytes_eq name b.0 ≡ false
+        → cond t (Some b.1) (cond u (Some f) (function_named bs other)) ≡ cond u (Some f) (cond t (Some b.1) (function_named bs other))
+    apart true true e d h =
+        absurd (false≢true (sym h ∙ equal_bytes name b.0 (sym (same_bytes other name d) ∙ same_bytes other b.0 e)))
+    apart true false e d h = refl
+    apart false true e d h = refl
+    apart false false e d h = refl
+
+    by : (t : Bool) → bytes_eq name b.0 ≡ t
+        → function_named (bind bs name f) other ≡ cond (bytes_eq other name) (Some f) (function_named bs other)
+        → function_named (cond t ((b.0, f) ∷ bs) (b ∷ bind bs name f)) other
+        ≡ cond (bytes_eq other name) (Some f) (cond (bytes_eq other b.0) (Some b.1) (function_named bs other))
+    by true h later =
+        same (bytes_eq other b.0) refl h
+        ∙ ap (λ (w : List ℕ). cond (bytes_eq other w) (Some f) (cond (bytes_eq other b.0) (Some b.1) (function_named bs other)))
+        (sym (same_bytes name b.0 h))
+    by false h later =
+        ap (λ o. cond (bytes_eq other b.0) (Some b.1) o) later ∙ apart (bytes_eq other b.0) (bytes_eq other name) refl refl h
+
+-- A `let` gives its name a function; each other name stands for what it stood for before.
+pub named-let : (s : State) (name : List ℕ) (f : FlatFunction) (other : List ℕ) → is_among s.variables name ≡ false
+    → named (record { level = s.level; variables = s.variables; functions = bind s.functions name f }) other
+    ≡ cond (bytes_eq other name) (Some f) (named s other)
+named-let s name f other free = by (bytes_eq other name) refl
+  where
+    none_at : bytes_eq other name ≡ true → position_of s.variables other ≡ None
+    none_at e =
+        ap (position_of s.variables) (same_bytes other name e)
+        ∙ ap (λ b. cond b (Some (place bytes_eq s.variables name)) None) free
+
+    by : (t : Bool) → bytes_eq other name ≡ t
+        → option_or (option_map (variable (level_in s)) (position_of s.variables other)) (function_named (bind s.functions name f) other)
+        ≡ cond t (Some f) (named s other)
+    by true e =
+        ap (λ o. option_or (option_map (variable (level_in s)) o) (function_named (bind s.functions name f) other)) (none_at e)
+        ∙ function_named-bind s.functions name f other
+        ∙ ap (λ t. cond t (Some f) (function_named s.functions other)) e
+    by false e =
+        ap (λ o. option_or (option_map (variable (level_in s)) (position_of s.variables other)) o)
+        (function_named-bind s.functions name f other ∙ ap (λ t. cond t (Some f) (function_named s.functions other)) e)
+
+-- The names of a line one after another: whether one is bound, or is one of the earlier ones.
+abbrev pub clashes_after : State → List (List ℕ) → List (List ℕ) → Bool
+clashes_after s earlier [] = false
+clashes_after s earlier (name ∷ later) =
+    (is_bound s name || is_among earlier name) || clashes_after s (earlier ++ name ∷ []) later
+
+among_more : (earlier : List (List ℕ)) (name other : List ℕ)
+    → is_among (earlier ++ name ∷ []) other ≡ (is_among earlier other || bytes_eq name other)
+among_more [] name other = or_false (bytes_eq name other)
+  where
+    or_false : (b : Bool) → b || false ≡ b
+    or_false true = refl
+    or_false false = refl
+among_more (word ∷ earlier) name other =
+    ap (λ b. bytes_eq word other || b) (among_more earlier name other)
+    ∙ assoc (bytes_eq word other) (is_among earlier other) (bytes_eq name other)
+  where
+    assoc : (a b c : Bool) → a || (b || c) ≡ ((a || b) || c)
+    assoc true b c = refl
+    assoc false b c = refl
+
+any_more : (earlier : List (List ℕ)) (name : List ℕ) (later : List (List ℕ))
+    → list_any (is_among (earlier ++ name ∷ [])) later ≡ (list_any (is_among earlier) later || is_among later name)
+any_more earlier name [] = refl
+any_more earlier name (word ∷ later) =
+    ap (λ b. b || list_any (is_among (earlier ++ name ∷ [])) later) (among_more earlier name word ∙ ap (λ b. is_among earlier word || b) (turned_bytes name word))
+    ∙ ap (λ b. (is_among earlier word || bytes_eq word name) || b) (any_more earlier name later)
+    ∙ shuffle (is_among earlier word) (bytes_eq word name) (list_any (is_among earlier) later) (is_among later name)
+  where
+    shuffle : (a b c d : Bool) → (a || b) || (c || d) ≡ ((a || c) || (b || d))
+    shuffle true b c d = refl
+    shuffle false true true d = refl
+    shuffle false true false d = refl
+    shuffle false false c d = refl
+
+clashes_after_is : (s : State) (earlier names : List (List ℕ))
+    → clashes_after s earlier names ≡ (list_any (is_bound s) names || (list_any (is_among earlier) names || repeats names))
+clashes_after_is s earlier [] = refl
+clashes_after_is s earlier (name ∷ later) =
+    ap (λ b. (is_bound s name || is_among earlier name) || b)
+    (clashes_after_is s (earlier ++ name ∷ []) later
+    ∙ ap (λ b. list_any (is_bound s) later || (b || repeats later)) (any_more earlier name later))
+    ∙ shuffle (is_bound s name) (is_among earlier name) (list_any (is_bound s) later) (list_any (is_among earlier) later) (is_among later name) (repeats later)
+  where
+    shuffle : (a b c d e f : Bool) → (a || b) || (c || ((d || e) || f)) ≡ ((a || c) || ((b || d) || (e || f)))
+    shuffle true b c d e f = refl
+    shuffle false true true d e f = refl
+    shuffle false true false d e f = refl
+    shuffle false false true d e f = refl
+    shuffle false false false true e f = refl
+    shuffle false false false false e f = refl
+
+none_among : (names : List (List ℕ)) → list_any (is_among []) names ≡ false
+none_among [] = refl
+none_among (name ∷ names) = none_among names
+
+-- `var` may test the names one after another
+pub clashes-after : (s : State) (names : List (List ℕ)) → clashes s names ≡ clashes_after s [] names
+clashes-after s names =
+    sym (clashes_after_is s [] names ∙ ap (λ b. list_any (is_bound s) names || (b || repeats names)) (none_among names))
+
+-- the bits that BITS of up to 128 digits spell
+pub spelled-is : (text : List ℕ) → is_bits text ≡ true → length text ≤ 128 → bits_of_text text ≡ Some (spelled text)
+unfolding is_bits
+spelled-is text h short =
+    let some = left (nat_le 1 (length text)) (list_all (λ b. b == 48 || b == 49) text) h in
+    let digits = right (nat_le 1 (length text)) (list_all (λ b. b == 48 || b == 49) text) h in
+    ap (λ b. cond b (Some (spelled text)) None) (all_three (nat_le 1 (length text)) (nat_le (length text) 128) (are_digits text) some (is_le (length text) 128 short) digits)
+  where
+    all_three : (a b c : Bool) → a ≡ true → b ≡ true → c ≡ true → (a && b) && c ≡ true
+    all_three a b c x y z = ap (λ t. (t && b) && c) x ∙ ap (λ t. t && c) y ∙ z

@@ -1,0 +1,39 @@
+//! What the words of a script's lines stand for.
+
+use cf_model::terms::{Word1, Word2};
+
+/// What the first word of a line says.
+#[derive(Clone, Copy, PartialEq, Eq, Debug)]
+pub enum Keyword {
+    /// `level K`
+    Level,
+    /// `var NAME ..`
+    Var,
+    /// `let NAME = EXPR`
+    Let,
+    /// `value NAME BITS`
+    Value,
+    /// `first NAME NUMBER`
+    First,
+    /// `list NAME NUMBER MAX`
+    List,
+    /// `equal NAME NAME`
+    Equal,
+    /// `size NAME`
+    Size,
+    /// `stats`
+    Stats,
+}
+
+/// What a word before `(` calls.
+#[derive(Clone, Copy, PartialEq, Eq, Debug)]
+pub enum Call {
+    /// `const(J, V)`
+    Const,
+    /// An operation on one expression.
+    One(Word1),
+    /// An operation folded over two expressions or more.
+    Fold(Word2),
+    /// `ite(E, E, E)`
+    Ite,
+}

@@ -1,0 +1,14 @@
+use Rattle.std.proofs.Common.{sym, ◌∙◌}
+use Rattle.cf_script.proofs.WordFacts.{word-sign, word-run, word-whole}
+use Rattle.cf_script.proofs.words.word_length.Goals as goal
+
+pub returns-then-is_sign-clause-word : goal.returns-then-is_sign-clause-word
+returns-then-is_sign-clause-word c = word-sign c.args.text.now c.requires.some c.requires.begins (sym c.is_sign.ensures ∙ c.if-is_sign.true)
+
+pub returns-in-Some-clause-word : goal.returns-in-Some-clause-word
+returns-in-Some-clause-word c =
+    (word-run c.args.text.now c.in-Some.end c.requires.some c.requires.begins (sym c.is_sign.ensures ∙ c.if-is_sign.false) (sym c.in-Some.ensures.place)).1
+
+pub returns-in-None-clause-word : goal.returns-in-None-clause-word
+returns-in-None-clause-word c =
+    word-whole c.args.text.now c.requires.some c.requires.begins (sym c.is_sign.ensures ∙ c.if-is_sign.false) (sym c.in-None.ensures.place)

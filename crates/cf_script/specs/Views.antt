@@ -1,0 +1,39 @@
+use Rattle.std.specs.Prelude.{List, [], ◌∷◌}
+use Rattle.cf_reference.specs.Trees.{Tree, Trees, Num, At, Named, Const, One, Fold, Ite, none, more}
+use Rattle.cf_reference.specs.Trees as tree
+use Rattle.cf_script.specs.declared.trees.Expr.{Expr, One', Fold', Ite', Row_of-Expr, end_of-Expr, more_of-Expr}
+use Rattle.cf_script.specs.declared.trees.Expr as expr
+use Rattle.cf_script.specs.declared.trees.Statement.{Statement}
+use Rattle.cf_script.specs.declared.trees.Statement.TheVariants as statement
+
+-- expressions and statements without where they lie in memory
+abbrev mutual
+  pub tree_of : Expr → Tree
+  tree_of (expr.Num n) = Num n
+  tree_of (expr.At n) = At n
+  tree_of (expr.Named name) = Named name.now
+  tree_of (expr.Const level n) = Const level n
+  tree_of (One' word at e) = One word (tree_of e)
+  tree_of (Fold' word shape all) = Fold word (row_of all)
+  tree_of (Ite' shape all) = Ite (row_of all)
+
+  pub row_of : {m : _} → Row_of-Expr m → Trees
+  row_of end_of-Expr = none
+  row_of (more_of-Expr e rest) = more (tree_of e) (row_of rest)
+
+-- the trees of a list of expressions
+abbrev pub listed : List Expr → Trees
+listed [] = none
+listed (e ∷ es) = more (tree_of e) (listed es)
+
+abbrev pub statement_of : Statement → tree.Statement
+statement_of statement.Empty = tree.Empty
+statement_of (statement.Level level) = tree.Level level
+statement_of (statement.Vars names) = tree.Vars names
+statement_of (statement.Let name e) = tree.Let name.now (tree_of e)
+statement_of (statement.Value name bits) = tree.Value name.now bits.now
+statement_of (statement.First name n) = tree.First name.now n
+statement_of (statement.List name n most) = tree.Listed name.now n most
+statement_of (statement.Equal name other) = tree.Equal name.now other.now
+statement_of (statement.Size name) = tree.Size name.now
+statement_of statement.Stats = tree.Stats

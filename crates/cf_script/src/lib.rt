@@ -1,0 +1,15 @@
+// The statements that the lines of a script spell.
+#![tactic(auto)]
+
+pub(crate) mod expressions;
+pub mod faults;
+pub(crate) mod numbers;
+pub mod statements;
+#[cfg(test)]
+mod tests;
+pub mod trees;
+pub(crate) mod words;
+
+pub use faults::ScriptFault;
+pub use statements::parse_line;
+pub use trees::{Expr, Exprs, NameSlices, Statement};

@@ -1,0 +1,332 @@
+//! The statements of a line.
+
+ghost use Rattle.std.specs.Prelude.{◌≡◌, ℕ, List, [], ◌∷◌, IfOk, IfSome, IfNone, IsErrOf, IsTrue, ◌↔◌};
+ghost use Rattle.cf_reference.specs.declared.grammar.Keyword.{Keyword};
+ghost use Rattle.cf_reference.specs.Words.{words, words_of_line};
+ghost use Rattle.cf_reference.specs.Trees.{Formed};
+ghost use Rattle.cf_reference.specs.Grammar.{keyword_of as keyword_of_word};
+ghost use Rattle.cf_reference.specs.LineRefusals.{IsDeep, Parses, Good, TooDeep, Malformed, WideNumber};
+ghost use Rattle.cf_script.specs.Views.{statement_of};
+ghost use Rattle.cf_script.specs.Answers.{Answers, any_wide, is_wide as is_wide_word, takes_memory, SpellsName};
+
+use crate::expressions::{Fault, read_expr};
+use crate::faults::ScriptFault;
+use crate::numbers::{natural, number, place};
+use crate::trees::{NameSlices, Statement};
+use crate::words::{after, before_comment, is_bits, is_name, next_word};
+use cf_reference::grammar::Keyword;
+use std::alloc::Global;
+
+/// The statement that a line spells, or why there is none. A line with more than 64 parentheses open at once is too deep,
+/// whatever else is wrong with it, and a line that isn't of the grammar is malformed, also where a number doesn't fit.
+/// Only a line that begins with `var` or `let` takes memory.
+pub fn parse_line<'a>(alloc: Global, line: &'a [u8]) -> Result<Statement<'a>, ScriptFault>
+    ensures spelled { IfOk result (λ s. Parses line.now (Good (statement_of s))) }
+    ensures formed { IfOk result (λ s. Formed (statement_of s)) }
+    ensures deep { IsErrOf result ScriptFault.TooDeep → Parses line.now TooDeep }
+    ensures malformed { IsErrOf result ScriptFault.Malformed → Parses line.now Malformed }
+    ensures wide { IsErrOf result ScriptFault.WideNumber → Parses line.now WideNumber }
+    ensures memory { IsErrOf result ScriptFault.NoMemory → IsTrue (takes_memory (words_of_line line.now)) }
+{
+    let text = before_comment(line);
+    if is_deep(text) {
+        return Err(ScriptFault::TooDeep);
+    }
+    match next_word(text) {
+        Some((word, rest)) => match keyword_of(word) {
+            Some(keyword) => read_statement(alloc, keyword, rest),
+            None => Err(ScriptFault::Malformed),
+        },
+        None => Ok(Statement::Empty),
+    }
+}
+
+/// Whether more than 64 parentheses are open at once.
+fn is_deep(text: &[u8]) -> bool
+    ensures { IsTrue result ↔ IsDeep text.now }
+{
+    let mut opened = 0usize;
+    let mut closed = 0usize;
+    for b in text {
+        opened += usize::from(*b == b'(');
+        closed += usize::from(*b == b')');
+        if opened.saturating_sub(closed) > 64 {
+            return true;
+        }
+    }
+    false
+}
+
+/// What the first word of a line says.
+#[tactic(auto, unfolding(cf_reference::specs::Grammar::keyword_of))]
+fn keyword_of(word: &[u8]) -> Option<Keyword>
+    ensures { result ≡ keyword_of_word word.now }
+{
+    if word == b"level".as_slice() {
+        Some(Keyword::Level)
+    } else if word == b"var".as_slice() {
+        Some(Keyword::Var)
+    } else if word == b"let".as_slice() {
+        Some(Keyword::Let)
+    } else if word == b"value".as_slice() {
+        Some(Keyword::Value)
+    } else if word == b"first".as_slice() {
+        Some(Keyword::First)
+    } else if word == b"list".as_slice() {
+        Some(Keyword::List)
+    } else if word == b"equal".as_slice() {
+        Some(Keyword::Equal)
+    } else if word == b"size".as_slice() {
+        Some(Keyword::Size)
+    } else if word == b"stats".as_slice() {
+        Some(Keyword::Stats)
+    } else {
+        None
+    }
+}
+
+/// The statement of a keyword, from the text behind it.
+fn read_statement<'a>(
+    alloc: Global,
+    keyword: Keyword,
+    text: &'a [u8],
+) -> Result<Statement<'a>, ScriptFault>
+    ensures { Answers keyword (words text.now) result }
+{
+    match keyword {
+        Keyword::Level => read_level(text),
+        Keyword::Var => read_vars(alloc, text),
+        Keyword::Let => read_let(alloc, text),
+        Keyword::Value => read_value(text),
+        Keyword::First => read_first(text),
+        Keyword::List => read_list(text),
+        Keyword::Equal => read_equal(text),
+        Keyword::Size => read_size(text),
+        Keyword::Stats => read_stats(text),
+    }
+}
+
+/// The only word of a text.
+fn one_word(text: &[u8]) -> Option<&[u8]>
+    ensures found { IfSome result (λ r. words text.now ≡ r.now ∷ []) }
+    ensures none { IfNone result ((a : List ℕ) → words text.now ≡ a ∷ [] → ⊥) }
+{
+    let (word, rest) = next_word(text)?;
+    match next_word(rest) {
+        Some(_) => None,
+        None => Some(word),
+    }
+}
+
+/// The two words of a text.
+fn two_words(text: &[u8]) -> Option<(&[u8], &[u8])>
+    ensures found { IfSome result (λ r. words text.now ≡ r.0.now ∷ r.1.now ∷ []) }
+    ensures none { IfNone result ((a : List ℕ) → (b : List ℕ) → words text.now ≡ a ∷ b ∷ [] → ⊥) }
+{
+    let (word, rest) = next_word(text)?;
+    Some((word, one_word(rest)?))
+}
+
+/// The three words of a text.
+fn three_words(text: &[u8]) -> Option<(&[u8], &[u8], &[u8])>
+    ensures found { IfSome result (λ r. words text.now ≡ r.0.now ∷ r.1.now ∷ r.2.now ∷ []) }
+    ensures none { IfNone result ((a : List ℕ) → (b : List ℕ) → (c : List ℕ) → words text.now ≡ a ∷ b ∷ c ∷ [] → ⊥) }
+{
+    let (word, rest) = next_word(text)?;
+    let (second, third) = two_words(rest)?;
+    Some((word, second, third))
+}
+
+/// `level K`
+fn read_level(text: &[u8]) -> Result<Statement<'_>, ScriptFault>
+    ensures { Answers Keyword.Level (words text.now) result }
+{
+    let Some(word) = one_word(text) else {
+        return Err(ScriptFault::Malformed);
+    };
+    match natural(word) {
+        Some(Some(level)) => Ok(Statement::Level(level)),
+        Some(None) => Err(ScriptFault::WideNumber),
+        None => Err(ScriptFault::Malformed),
+    }
+}
+
+/// `var NAME ..`
+fn read_vars<'a>(alloc: Global, text: &'a [u8]) -> Result<Statement<'a>, ScriptFault>
+    ensures { Answers Keyword.Var (words text.now) result }
+{
+    let mut names = NameSlices::new(alloc);
+    let mut rest = text;
+    while let Some((name, more)) = next_word(rest) {
+        if !is_name(name) {
+            return Err(ScriptFault::Malformed);
+        }
+        names.push(name)?;
+        rest = more;
+    }
+    if names.items().is_empty() {
+        return Err(ScriptFault::Malformed);
+    }
+    Ok(Statement::Vars(names))
+}
+
+/// Whether a text has no words.
+fn has_ended(text: &[u8]) -> bool
+    ensures { IsTrue result ↔ words text.now ≡ [] }
+{
+    next_word(text).is_none()
+}
+
+/// The name before `=`, and the text behind it.
+fn let_name(text: &[u8]) -> Option<(&[u8], &[u8])>
+    ensures found { IfSome result (λ r. SpellsName r.0.now (words text.now) (words r.1.now)) }
+    ensures none { IfNone result ((name : List ℕ) → (rest : List (List ℕ)) → SpellsName name (words text.now) rest → ⊥) }
+{
+    let (name, rest) = next_word(text)?;
+    let rest = after(b'=', rest)?;
+    if is_name(name) {
+        Some((name, rest))
+    } else {
+        None
+    }
+}
+
+/// `let NAME = EXPR`
+fn read_let<'a>(alloc: Global, text: &'a [u8]) -> Result<Statement<'a>, ScriptFault>
+    ensures { Answers Keyword.Let (words text.now) result }
+{
+    let Some((name, text)) = let_name(text) else {
+        return Err(ScriptFault::Malformed);
+    };
+    match read_expr(alloc, text) {
+        Ok((e, rest)) => {
+            if !has_ended(rest) {
+                Err(ScriptFault::Malformed)
+            } else if has_wide_number(text) {
+                Err(ScriptFault::WideNumber)
+            } else {
+                Ok(Statement::Let(name, e))
+            }
+        }
+        Err(Fault::NoMemory) => Err(ScriptFault::NoMemory),
+        Err(Fault::Malformed) => Err(ScriptFault::Malformed),
+    }
+}
+
+/// Whether a word is a number that doesn't fit, or a position that doesn't.
+fn is_wide(word: &[u8]) -> bool
+    ensures { result ≡ is_wide_word word.now }
+{
+    number(word) == Some(None) || place(word) == Some(None)
+}
+
+/// Whether a text has a number that doesn't fit.
+fn has_wide_number(text: &[u8]) -> bool
+    ensures { result ≡ any_wide (words text.now) }
+{
+    let mut rest = text;
+    while let Some((word, more)) = next_word(rest) {
+        if is_wide(word) {
+            return true;
+        }
+        rest = more;
+    }
+    false
+}
+
+/// `value NAME BITS`
+fn read_value(text: &[u8]) -> Result<Statement<'_>, ScriptFault>
+    ensures { Answers Keyword.Value (words text.now) result }
+{
+    match two_words(text) {
+        Some((name, bits)) => {
+            if is_name(name) && is_bits(bits) {
+                Ok(Statement::Value(name, bits))
+            } else {
+                Err(ScriptFault::Malformed)
+            }
+        }
+        None => Err(ScriptFault::Malformed),
+    }
+}
+
+/// `first NAME NUMBER`
+fn read_first(text: &[u8]) -> Result<Statement<'_>, ScriptFault>
+    ensures { Answers Keyword.First (words text.now) result }
+{
+    let Some((name, value)) = two_words(text) else {
+        return Err(ScriptFault::Malformed);
+    };
+    if !is_name(name) {
+        return Err(ScriptFault::Malformed);
+    }
+    match number(value) {
+        Some(Some(value)) => Ok(Statement::First(name, value)),
+        Some(None) => Err(ScriptFault::WideNumber),
+        None => Err(ScriptFault::Malformed),
+    }
+}
+
+/// `list NAME NUMBER MAX`
+fn read_list(text: &[u8]) -> Result<Statement<'_>, ScriptFault>
+    ensures { Answers Keyword.List (words text.now) result }
+{
+    let Some((name, value, most)) = three_words(text) else {
+        return Err(ScriptFault::Malformed);
+    };
+    if !is_name(name) {
+        return Err(ScriptFault::Malformed);
+    }
+    let Some(value) = number(value) else {
+        return Err(ScriptFault::Malformed);
+    };
+    let Some(most) = natural(most) else {
+        return Err(ScriptFault::Malformed);
+    };
+    match value.zip(most) {
+        Some((value, most)) => Ok(Statement::List(name, value, most)),
+        None => Err(ScriptFault::WideNumber),
+    }
+}
+
+/// `equal NAME NAME`
+fn read_equal(text: &[u8]) -> Result<Statement<'_>, ScriptFault>
+    ensures { Answers Keyword.Equal (words text.now) result }
+{
+    match two_words(text) {
+        Some((name, other)) => {
+            if is_name(name) && is_name(other) {
+                Ok(Statement::Equal(name, other))
+            } else {
+                Err(ScriptFault::Malformed)
+            }
+        }
+        None => Err(ScriptFault::Malformed),
+    }
+}
+
+/// `size NAME`
+fn read_size(text: &[u8]) -> Result<Statement<'_>, ScriptFault>
+    ensures { Answers Keyword.Size (words text.now) result }
+{
+    match one_word(text) {
+        Some(name) => {
+            if is_name(name) {
+                Ok(Statement::Size(name))
+            } else {
+                Err(ScriptFault::Malformed)
+            }
+        }
+        None => Err(ScriptFault::Malformed),
+    }
+}
+
+/// `stats`
+fn read_stats(text: &[u8]) -> Result<Statement<'_>, ScriptFault>
+    ensures { Answers Keyword.Stats (words text.now) result }
+{
+    match next_word(text) {
+        Some(_) => Err(ScriptFault::Malformed),
+        None => Ok(Statement::Stats),
+    }
+}

@@ -1,0 +1,127 @@
+//! Expressions and statements as trees that borrow the line that they were read from.
+
+ghost use Rattle.std.specs.Prelude.{◌≡◌, [], ◌∷◌, ◌++◌, OnOk, OnErr, map};
+
+use cf_ops::{NoMemory, Word1, Word2};
+use std::alloc::Global;
+use std::marker::Model;
+
+/// An expression. Its names are slices of the line.
+#[derive(Drop)]
+#[cycle(expr)]
+pub enum Expr<'a> {
+    /// A number.
+    Num(i128),
+    /// The bit at a position.
+    At(i128),
+    /// A variable or a function.
+    Named(&'a [u8]),
+    /// `const(J, V)`: the number V at the level J.
+    Const(i128, i128),
+    /// An operation on one expression.
+    One(Word1, Box<Expr<'a>>),
+    /// An operation folded from the left over the expressions.
+    Fold(Word2, Exprs<'a>),
+    /// The second of three expressions where the first one isn't 0, else the third one.
+    Ite(Exprs<'a>),
+}
+
+/// A list of expressions.
+#[derive(Drop)]
+#[cycle(expr)]
+pub struct Exprs<'a> {
+    items: Vec<Expr<'a>>,
+}
+
+impl<'a> Exprs<'a> {
+    /// The empty list.
+    pub fn new(alloc: Global) -> Exprs<'a>
+        ensures { result.items.items ≡ [] }
+    {
+        Exprs {
+            items: Vec::new(alloc),
+        }
+    }
+
+    /// Appends an expression. Without memory the list is as before.
+    pub fn push(&mut self, item: Expr<'a>) -> Result<(), NoMemory>
+        ensures ok { OnOk result (self.new.items.items ≡ self.old.items.items ++ item.entry ∷ []) }
+        ensures err { OnErr result (self.new.items.items ≡ self.old.items.items) }
+    {
+        self.items.push(item)?;
+        Ok(())
+    }
+
+    /// The expressions in their order.
+    pub fn items(&self) -> &[Expr<'a>]
+        ensures { result.now ≡ self.now.items.items }
+    {
+        self.items.as_slice()
+    }
+}
+
+/// A list of names, which are slices of the line.
+#[derive(Drop)]
+pub struct NameSlices<'a> {
+    items: Vec<&'a [u8]>,
+}
+
+impl<'a> Model for NameSlices<'a> {
+    ghost use Rattle.std.specs.Prelude.{ℕ, List, map};
+
+    ghost Value = { List (List ℕ) };
+
+    ghost view = { λ n. map (λ name. name.now) n.items.items };
+}
+
+impl<'a> NameSlices<'a> {
+    /// The empty list.
+    pub fn new(alloc: Global) -> NameSlices<'a>
+        ensures { result ≡ [] }
+    {
+        NameSlices {
+            items: Vec::new(alloc),
+        }
+    }
+
+    /// Appends a name. Without memory the list is as before.
+    pub fn push(&mut self, item: &'a [u8]) -> Result<(), NoMemory>
+        ensures ok { OnOk result (self.new ≡ self.old ++ item.now ∷ []) }
+        ensures err { OnErr result (self.new ≡ self.old) }
+    {
+        self.items.push(item)?;
+        Ok(())
+    }
+
+    /// The names in their order.
+    pub fn items(&self) -> &[&'a [u8]]
+        ensures { map (λ name. name.now) result.now ≡ self.now }
+    {
+        self.items.as_slice()
+    }
+}
+
+/// A statement. Its names and bits are slices of the line.
+#[derive(Drop)]
+pub enum Statement<'a> {
+    /// A line of blanks and a comment.
+    Empty,
+    /// `level K`
+    Level(i128),
+    /// `var NAME ..`
+    Vars(NameSlices<'a>),
+    /// `let NAME = EXPR`
+    Let(&'a [u8], Expr<'a>),
+    /// `value NAME BITS`
+    Value(&'a [u8], &'a [u8]),
+    /// `first NAME NUMBER`
+    First(&'a [u8], i128),
+    /// `list NAME NUMBER MAX`
+    List(&'a [u8], i128, i128),
+    /// `equal NAME NAME`
+    Equal(&'a [u8], &'a [u8]),
+    /// `size NAME`
+    Size(&'a [u8]),
+    /// `stats`
+    Stats,
+}

@@ -1,0 +1,114 @@
+//! The least assignment at which two functions differ.
+
+ghost use Rattle.std.specs.Prelude.{◌≡◌, ◌<◌, ◌^◌, ◌↔◌, pos, List, Bool, Some, None, Ok, IfOk, IfSome};
+ghost use Rattle.cf_model.specs.Assignments.{bits};
+ghost use Rattle.cf_model.specs.FlatFunctions.{IsAssignment, IsLeast, value_at};
+ghost use Rattle.cf_pkg.specs.Packages.{OwnsFunction, Keeps, meaning};
+ghost use Rattle.cf_pkg.specs.Jobs.{AreLevel};
+ghost use Rattle.cf_witness.specs.Separating.{Differ, AgreeEverywhere};
+
+use crate::first_value;
+use cf_bits::Bits;
+use cf_ops::Word2;
+use cf_pkg::{Func, OpFault, Pkg};
+use cf_table::steps::Steps;
+use cf_tuple::NoMemory;
+use std::alloc::AllocError;
+use std::marker::Brand;
+use std::sync::ledger::{Blank, Ledger};
+
+/// The function that is 1 where f and g agree, and 0 where they differ.
+fn agreement<L: Ledger>(pkg: &mut Pkg, f: Func, g: Func, blank: Blank) -> Result<Func, NoMemory>
+    requires level { AreLevel pkg.old f g }
+    requires name { blank.name ≡ L.name }
+    requires parts { blank.parts ≡ L.parts }
+    requires some { 0 < blank.parts }
+    ensures owned { IfOk result (λ r. OwnsFunction pkg.new r) }
+    ensures level { IfOk result (λ r. r.head.level ≡ f.head.level) }
+    ensures zeros { IfOk result (λ r. (at : List Bool) → IsAssignment f.head.level at → (value_at (meaning pkg.new r) at ≡ Some (pos 0)) ↔ Differ pkg.old f g at) }
+    ensures kept { Keeps pkg.old pkg.new }
+{
+    pkg.law(f);
+    pkg.law(g);
+    let mut steps = Steps::<L>::open(blank);
+    match pkg.apply_word(Word2::Eq, f, g, &mut steps) {
+        Ok(function) => Ok(function),
+        Err(OpFault::NoMemory) => Err(AllocError),
+        Err(OpFault::Overflow { .. }) => unreachable!(),
+    }
+}
+
+/// The value of a function at an assignment, for a caller that counts nothing.
+fn value_there<L: Ledger>(pkg: &Pkg, f: Func, at: Bits, blank: Blank) -> i128
+    requires owned { OwnsFunction pkg.now f }
+    requires len { at.len ≡ 2 ^ f.head.level }
+    requires name { blank.name ≡ L.name }
+    requires parts { blank.parts ≡ L.parts }
+    requires some { 0 < blank.parts }
+    ensures { value_at (meaning pkg.now f) (bits at) ≡ Some result }
+{
+    let mut steps = Steps::<L>::open(blank);
+    pkg.eval(f, at, &mut steps)
+}
+
+/// The least assignment at which f and g differ, with f's value there and g's, and None exactly
+/// where they agree everywhere. Then it takes no memory, and nothing is added to the package.
+#[tactic(auto, using(crate::proofs::Agreement::length_laws))]
+pub fn separate(pkg: &mut Pkg, f: Func, g: Func) -> Result<Option<(Bits, i128, i128)>, NoMemory>
+    requires level { AreLevel pkg.old f g }
+    ensures least { IfOk result (λ o. IfSome o (λ s. IsLeast f.head.level (Differ pkg.old f g) (bits s.0))) }
+    ensures values { IfOk result (λ o. IfSome o (λ s. (value_at (meaning pkg.old f) (bits s.0) ≡ Some s.1) × (value_at (meaning pkg.old g) (bits s.0) ≡ Some s.2))) }
+    ensures none { (result ≡ Ok None) ↔ AgreeEverywhere pkg.old f g }
+    ensures unchanged { AgreeEverywhere pkg.old f g → pkg.new ≡ pkg.old }
+    ensures kept { Keeps pkg.old pkg.new }
+{
+    if pkg.same(f, g) {
+        return Ok(None);
+    }
+    let agreement = agreement::<Brand>(pkg, f, g, Blank::new(1))?;
+    let Some(at) = first_value(pkg, agreement, 0) else {
+        unreachable!();
+    };
+    let left = value_there::<Brand>(pkg, f, at, Blank::new(1));
+    let right = value_there::<Brand>(pkg, g, at, Blank::new(1));
+    Ok(Some((at, left, right)))
+}
+
+#[cfg(test)]
+mod tests {
+    use super::*;
+    use std::test::Fail;
+
+    /// The word's operation on the two variables of level 1.
+    fn of_bits<L: Ledger>(pkg: &mut Pkg, word: Word2, blank: Blank) -> Result<Func, OpFault>
+        requires name { blank.name ≡ L.name }
+        requires parts { blank.parts ≡ L.parts }
+        requires some { 0 < blank.parts }
+    {
+        let mut steps = Steps::<L>::open(blank);
+        let first = pkg.variable(1, 0)?;
+        let second = pkg.variable(1, 1)?;
+        pkg.apply_word(word, first, second, &mut steps)
+    }
+
+    #[test]
+    fn and_differs_from_or_first_at_01(rt: HostRuntime) -> Result<(), Fail> {
+        let mut pkg = Pkg::new(rt.alloc())?;
+        let and = of_bits::<Brand>(&mut pkg, Word2::And, Blank::new(1))?;
+        let or = of_bits::<Brand>(&mut pkg, Word2::Or, Blank::new(1))?;
+        assert!(rt; pkg.owns(and) && pkg.owns(or) && and.head.level == or.head.level);
+        let answer = separate(&mut pkg, and, or)?;
+        assert!(rt; matches!(answer, Some((at, 0, 1)) if at.len() == 2 && at.number() == 1));
+        Ok(())
+    }
+
+    #[test]
+    fn and_of_bits_is_their_product(rt: HostRuntime) -> Result<(), Fail> {
+        let mut pkg = Pkg::new(rt.alloc())?;
+        let and = of_bits::<Brand>(&mut pkg, Word2::And, Blank::new(1))?;
+        let times = of_bits::<Brand>(&mut pkg, Word2::Times, Blank::new(1))?;
+        assert!(rt; pkg.owns(and) && pkg.owns(times) && and.head.level == times.head.level);
+        assert!(rt; separate(&mut pkg, and, times)?.is_none());
+        Ok(())
+    }
+}
