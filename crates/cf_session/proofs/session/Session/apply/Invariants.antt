@@ -1,0 +1,4 @@
+use Rattle.cf_session.proofs.session.Session.apply.Given as goal
+
+abbrev pub ghosts-apply_uncounted : goal.ghosts-apply_uncounted
+ghosts-apply_uncounted a = record { name = a.blank.name; parts = a.blank.parts }

@@ -1,0 +1,17 @@
+use Rattle.cf_session.proofs.Growth.{held, grown_from, flat}
+use Rattle.cf_session.proofs.session.Session.map.Goals as goal
+
+pub invariant_of-self : goal.invariant_of-self
+invariant_of-self c = held _ _ c.self.invariant c.map_word.ensures.kept
+
+pub returns-in_err-r-clause-grows : goal.returns-in_err-r-clause-grows
+returns-in_err-r-clause-grows c = grown_from _ _ _ c.self.view_is c.self.invariant c.map_word.ensures.kept
+
+pub invariant_of-self-2 : goal.invariant_of-self-2
+invariant_of-self-2 c = held _ _ c.self.invariant c.map_word.ensures.kept
+
+pub returns-clause-flat : goal.returns-clause-flat
+returns-clause-flat c = flat c.map_word.new.self c.in_ok-r.r c.law.ensures.good c.law.ensures.level c.law.ensures.function
+
+pub returns-clause-grows : goal.returns-clause-grows
+returns-clause-grows c = grown_from _ _ _ c.self.view_is c.self.invariant c.map_word.ensures.kept

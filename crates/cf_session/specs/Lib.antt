@@ -1,0 +1,7 @@
+pub mod Sessions
+pub mod Bindings
+pub mod Faults
+pub mod Walks
+pub mod Building
+pub mod Statements
+pub mod Stepping

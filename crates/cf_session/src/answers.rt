@@ -1,0 +1,178 @@
+//! The statements that ask.
+
+ghost use Rattle.std.specs.Prelude.{◌≡◌, ◌≢◌, ◌^◌, ◌<◌, ◌≤◌, length, IfSome, IfNone, IsTrue, IsSome, IfOk, IfErr, Some};
+ghost use Rattle.cf_model.specs.Assignments.{bits};
+ghost use Rattle.cf_model.specs.FlatFunctions.{IsFlatFunction, value_at};
+ghost use Rattle.cf_pkg.specs.Packages.{OwnsFunction, Keeps, meaning};
+ghost use Rattle.cf_pkg.specs.Jobs.{AreLevel};
+ghost use Rattle.cf_reference.specs.Trees.{Value, First, Listed, Equal, Size, Stats};
+ghost use Rattle.cf_reference.specs.Words.{is_bits};
+ghost use Rattle.cf_reference.specs.States.{named};
+ghost use Rattle.cf_reference.specs.Answers.{spelled, equal_answer, list_reply};
+ghost use Rattle.cf_reference.specs.Carrying.{Refuses, Goes, lists, step};
+ghost use Rattle.cf_session.specs.Building.{Grows};
+ghost use Rattle.cf_session.specs.Faults.{reason_of};
+ghost use Rattle.cf_session.specs.Sessions.{state_of};
+ghost use Rattle.cf_session.specs.Statements.{IsFaultOfStep, IsNamed, IsUnknown};
+
+use crate::faults::{Refusal, StepFault};
+use crate::session::Session;
+use crate::walk::variables;
+use cf_bits::Bits;
+use cf_names::NoMemory;
+use cf_pkg::{Func, Pkg};
+use cf_table::steps::Steps;
+use cf_text::{
+    Text, bits_text, different_text, equal_text, none_text, size_text, stats_text, value_text,
+};
+use cf_witness::{Listing, first_value, separate};
+use std::marker::Brand;
+use std::sync::ledger::{Blank, Ledger};
+
+/// The value of a function at an assignment, for a caller that counts nothing.
+fn value_there<L: Ledger>(pkg: &Pkg, f: Func, at: Bits, blank: Blank) -> i128
+    requires owned { OwnsFunction pkg.now f }
+    requires len { at.len ≡ 2 ^ f.head.level }
+    requires name { blank.name ≡ L.name }
+    requires parts { blank.parts ≡ L.parts }
+    requires some { 0 < blank.parts }
+    ensures { value_at (meaning pkg.now f) (bits at) ≡ Some result }
+{
+    let mut steps = Steps::<L>::open(blank);
+    pkg.eval(f, at, &mut steps)
+}
+
+/// The assignment of a level that a text of digits spells; None exactly where the text has another
+/// length.
+fn assignment_of(level: u8, text: &[u8]) -> Option<Bits>
+    requires level { level ≤ 7 }
+    requires bits { IsTrue (is_bits text.now) }
+    ensures spelled { IfSome result (λ b. bits b ≡ spelled text.now) }
+    ensures len { IfSome result (λ b. b.len ≡ 2 ^ level) }
+    ensures found { IfSome result (λ b. length text.now ≡ 2 ^ level) }
+    ensures none { IfNone result (length text.now ≢ 2 ^ level) }
+{
+    let at = Bits::from_text(text)?;
+    if at.len() == variables(level) {
+        Some(at)
+    } else {
+        None
+    }
+}
+
+/// Whether so many lines may be asked for.
+fn lists(most: i128) -> bool
+    ensures { result ≡ lists most }
+{
+    1 <= most && most <= 1000
+}
+
+/// The reply of whether two functions are equal.
+fn difference(pkg: &mut Pkg, f: Func, g: Func) -> Result<Text, NoMemory>
+    requires level { AreLevel pkg.old f g }
+    requires first { IsFlatFunction (meaning pkg.old f) }
+    requires second { IsFlatFunction (meaning pkg.old g) }
+    ensures answer { IfOk result (λ t. t ≡ equal_answer (meaning pkg.old f) (meaning pkg.old g)) }
+    ensures kept { Keeps pkg.old pkg.new }
+{
+    match separate(pkg, f, g)? {
+        Some(found) => Ok(different_text(found.0, found.1, found.2)),
+        None => Ok(equal_text()),
+    }
+}
+
+impl Session {
+    /// The function of a name that stands for one.
+    fn ask(&self, name: &[u8]) -> Result<Func, Refusal>
+        ensures named { IfOk result (IsNamed self.now name.now) }
+        ensures unknown { IfErr result (IsUnknown self.now name.now) }
+    {
+        match self.func_of(name) {
+            Some(f) => {
+                self.pkg.law(f);
+                Ok(f)
+            }
+            None => Err(Refusal::NoName),
+        }
+    }
+
+    /// The value of a function at an assignment. It takes no memory.
+    pub(crate) fn value(&self, name: &[u8], text: &[u8]) -> Result<Text, Refusal>
+        requires set { IsSome self.now.level }
+        requires bits { IsTrue (is_bits text.now) }
+        ensures goes { IfOk result (λ t. step (state_of self.now) (Value name.now text.now) ≡ Goes (state_of self.now) t) }
+        ensures refused { IfErr result (λ r. step (state_of self.now) (Value name.now text.now) ≡ Refuses (reason_of r)) }
+    {
+        let f = self.ask(name)?;
+        let Some(at) = assignment_of(f.head.level, text) else {
+            return Err(Refusal::OutOfRange);
+        };
+        Ok(value_text(value_there::<Brand>(&self.pkg, f, at, Blank::new(1))))
+    }
+
+    /// The least assignment at which a function has a value. It takes no memory.
+    pub(crate) fn first(&self, name: &[u8], v: i128) -> Result<Text, Refusal>
+        requires set { IsSome self.now.level }
+        ensures goes { IfOk result (λ t. step (state_of self.now) (First name.now v) ≡ Goes (state_of self.now) t) }
+        ensures refused { IfErr result (λ r. step (state_of self.now) (First name.now v) ≡ Refuses (reason_of r)) }
+    {
+        let f = self.ask(name)?;
+        match first_value(&self.pkg, f, v) {
+            Some(at) => Ok(bits_text(at)),
+            None => Ok(none_text()),
+        }
+    }
+
+    /// The first assignments at which a function has a value, which are as yet to be written.
+    pub(crate) fn list(&self, name: &[u8], v: i128, most: i128) -> Result<Listing, StepFault>
+        requires set { IsSome self.now.level }
+        ensures goes { IfOk result (λ l. step (state_of self.now) (Listed name.now v most) ≡ Goes (state_of self.now) (list_reply l)) }
+        ensures short { IfOk result (λ l. length l ≤ 1000) }
+        ensures fault { IfErr result (IsFaultOfStep (state_of self.now) (Listed name.now v most)) }
+    {
+        let f = self.ask(name)?;
+        if !lists(most) {
+            return Err(StepFault::Refused(Refusal::OutOfRange));
+        }
+        Ok(Listing::new(self.alloc, &self.pkg, f, v, most as u16)?)
+    }
+
+    /// Whether two functions are equal, and where they differ first if they aren't.
+    pub(crate) fn equal(&mut self, name: &[u8], other: &[u8]) -> Result<Text, StepFault>
+        requires set { IsSome self.old.level }
+        ensures goes { IfOk result (λ t. step (state_of self.old) (Equal name.now other.now) ≡ Goes (state_of self.old) t) }
+        ensures fault { IfErr result (IsFaultOfStep (state_of self.old) (Equal name.now other.now)) }
+        ensures same { Grows self.old self.new }
+    {
+        let f = self.ask(name)?;
+        let g = self.ask(other)?;
+        if f.head.level != g.head.level {
+            return Err(StepFault::Refused(Refusal::LevelsDiffer));
+        }
+        Ok(difference(&mut self.pkg, f, g)?)
+    }
+
+    /// How large a function is.
+    pub(crate) fn size(&self, name: &[u8]) -> Result<Text, StepFault>
+        requires set { IsSome self.now.level }
+        ensures goes { IfOk result (λ t. step (state_of self.now) (Size name.now) ≡ Goes (state_of self.now) t) }
+        ensures fault { IfErr result (IsFaultOfStep (state_of self.now) (Size name.now)) }
+    {
+        let f = self.ask(name)?;
+        let sizes = self.pkg.sizes(f)?;
+        Ok(size_text(f.head.level, &sizes.per_level, sizes.exits))
+    }
+
+    /// How many names are bound, and how large all functions are together.
+    pub(crate) fn stats(&self) -> Result<Text, StepFault>
+        requires set { IsSome self.now.level }
+        ensures goes { IfOk result (λ t. step (state_of self.now) Stats ≡ Goes (state_of self.now) t) }
+        ensures fault { IfErr result (IsFaultOfStep (state_of self.now) Stats) }
+    {
+        self.law();
+        let mut all = Vec::from_slice(self.alloc, self.variables.functions())?;
+        all.extend_from_slice(self.functions.functions())?;
+        let per_level = self.pkg.live_sizes(all.as_slice())?;
+        Ok(stats_text(all.len() as u64, &per_level))
+    }
+}

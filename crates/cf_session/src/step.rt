@@ -1,0 +1,226 @@
+//! A statement.
+
+ghost use Rattle.std.specs.Prelude.{◌≡◌, ◌≢◌, ◌≤◌, ◌++◌, [], length, IsTrue, IsSome, IfErr, OnOk, OnErr};
+ghost use Rattle.cf_io.specs.Causes.{Rose};
+ghost use Rattle.cf_pkg.specs.Packages.{Keeps};
+ghost use Rattle.cf_reference.specs.Trees.{Formed, IsFormed, Level, Vars, Let, Value, First, Listed, Equal, Size, Stats};
+ghost use Rattle.cf_reference.specs.Trees as tree;
+ghost use Rattle.cf_reference.specs.Words.{is_bits};
+ghost use Rattle.cf_reference.specs.Answers.{list_reply};
+ghost use Rattle.cf_reference.specs.States.{is_among};
+ghost use Rattle.cf_reference.specs.Carrying.{Goes, step};
+ghost use Rattle.cf_script.specs.Views.{tree_of, statement_of};
+ghost use Rattle.cf_session.specs.Sessions.{state_of};
+ghost use Rattle.cf_session.specs.Stepping.{LeadsTo, Replies, IsAnswerTo, NeedsNoMemory, Puts, Does, sunk, wants_level, lacks_level, Answers, AnswersAlways, stepped_by};
+ghost use Rattle.cf_session.specs.Statements.{IsFaultOfStep};
+ghost use Rattle.cf_session.specs.Building.{Grows};
+
+use crate::faults::{Refusal, StepFault};
+use crate::session::Session;
+use cf_io::{Files, Sink, put_all};
+use cf_script::{Expr, NameSlices, Statement};
+use cf_text::{Text, bits_text, listed_text};
+use cf_witness::Listing;
+
+/// What a statement did.
+#[derive(Clone, Copy, Debug)]
+pub enum Stepped {
+    /// It was carried out, and its whole reply was written.
+    Written,
+    Refused(Refusal),
+    /// A write failed.
+    WriteFault,
+    /// A file couldn't be read.
+    FileFault,
+    NoMemory,
+}
+
+/// Writes a text.
+fn put_text<K: Sink>(out: &mut K, text: &Text) -> bool
+    ensures { Puts (sunk (K.tells out.old) (K.written out.old) (K.faults out.old))
+        (sunk (K.tells out.new) (K.written out.new) (K.faults out.new)) text.now result }
+{
+    put_all(out, text.bytes())
+}
+
+/// Writes assignments, one in a line, and how many they are.
+fn put_listing<K: Sink>(out: &mut K, listing: Listing) -> bool
+    requires { length listing ≤ 1000 }
+    ensures { Puts (sunk (K.tells out.old) (K.written out.old) (K.faults out.old))
+        (sunk (K.tells out.new) (K.written out.new) (K.faults out.new)) (list_reply listing) result }
+{
+    let mut count = 0u64;
+    for at in listing {
+        if !put_text(out, &bits_text(at)) {
+            return false;
+        }
+        count += 1;
+    }
+    put_text(out, &listed_text(count))
+}
+
+/// Writes an answer, if there is one.
+fn answer<K: Sink>(out: &mut K, text: Result<Text, StepFault>) -> Stepped
+    ensures { Answers text (sunk (K.tells out.old) (K.written out.old) (K.faults out.old))
+        (sunk (K.tells out.new) (K.written out.new) (K.faults out.new)) result }
+{
+    match text {
+        Ok(text) => {
+            if put_text(out, &text) {
+                Stepped::Written
+            } else {
+                Stepped::WriteFault
+            }
+        }
+        Err(StepFault::NoMemory) => Stepped::NoMemory,
+        Err(StepFault::Refused(refusal)) => Stepped::Refused(refusal),
+    }
+}
+
+/// Writes an answer that wants no memory, if there is one.
+fn answer_always<K: Sink>(out: &mut K, text: Result<Text, Refusal>) -> Stepped
+    ensures { AnswersAlways text (sunk (K.tells out.old) (K.written out.old) (K.faults out.old))
+        (sunk (K.tells out.new) (K.written out.new) (K.faults out.new)) result }
+{
+    match text {
+        Ok(text) => {
+            if put_text(out, &text) {
+                Stepped::Written
+            } else {
+                Stepped::WriteFault
+            }
+        }
+        Err(refusal) => Stepped::Refused(refusal),
+    }
+}
+
+/// The answer of a change of the session.
+fn changed(change: Result<(), StepFault>) -> Stepped
+    ensures { result ≡ stepped_by change }
+{
+    match change {
+        Ok(()) => Stepped::Written,
+        Err(StepFault::NoMemory) => Stepped::NoMemory,
+        Err(StepFault::Refused(refusal)) => Stepped::Refused(refusal),
+    }
+}
+
+/// Whether a statement wants a level.
+fn wants_level(statement: &Statement) -> bool
+    ensures { result ≡ wants_level (statement_of statement.now) }
+{
+    match statement {
+        Statement::Empty => false,
+        Statement::Level(_) => false,
+        _ => true,
+    }
+}
+
+impl Session {
+    /// Whether a statement is refused since there is no level.
+    fn lacks_level(&self, statement: &Statement) -> bool
+        ensures { result ≡ lacks_level (state_of self.now) (statement_of statement.now) }
+    {
+        if self.level.is_some() {
+            false
+        } else {
+            wants_level(statement)
+        }
+    }
+
+    /// Binds a name to the function of an expression. If it fails, level and names are as before.
+    fn define(&mut self, name: &[u8], expr: &Expr) -> Result<(), StepFault>
+        requires set { IsSome self.old.level }
+        requires formed { IsFormed (tree_of expr.now) }
+        ensures goes { OnOk result (step (state_of self.old) (Let name.now (tree_of expr.now)) ≡ Goes (state_of self.new) []) }
+        ensures fault { IfErr result (IsFaultOfStep (state_of self.old) (Let name.now (tree_of expr.now))) }
+        ensures same { OnErr result (Grows self.old self.new) }
+        ensures kept { Keeps self.old.pkg self.new.pkg }
+    {
+        if self.is_variable(name) {
+            return Err(StepFault::Refused(Refusal::Taken));
+        }
+        let f = self.build(expr)?;
+        self.bind_function(name, f)?;
+        Ok(())
+    }
+
+    /// Whether a variable has the name.
+    fn is_variable(&self, name: &[u8]) -> bool
+        ensures { result ≡ is_among (state_of self.now).variables name.now }
+    {
+        self.variables.place(name).is_some()
+    }
+
+    /// The first assignments of a value, each in a line.
+    fn step_list<K: Sink>(&self, name: &[u8], v: i128, most: i128, out: &mut K) -> Stepped
+        requires set { IsSome self.now.level }
+        ensures { Does (step (state_of self.now) (Listed name.now v most)) self.now self.now (sunk (K.tells out.old) (K.written out.old) (K.faults out.old))
+            (sunk (K.tells out.new) (K.written out.new) (K.faults out.new)) result }
+    {
+        match self.list(name, v, most) {
+            Ok(listing) => {
+                if put_listing(out, listing) {
+                    Stepped::Written
+                } else {
+                    Stepped::WriteFault
+                }
+            }
+            Err(StepFault::NoMemory) => Stepped::NoMemory,
+            Err(StepFault::Refused(refusal)) => Stepped::Refused(refusal),
+        }
+    }
+
+    /// Carries out a statement.
+    fn step_on<K: Sink>(&mut self, statement: &Statement, out: &mut K) -> Stepped
+        requires { Formed (statement_of statement.now) }
+        ensures does { Does (step (state_of self.old) (statement_of statement.now)) self.old self.new (sunk (K.tells out.old) (K.written out.old) (K.faults out.old))
+            (sunk (K.tells out.new) (K.written out.new) (K.faults out.new)) result }
+        ensures memory { NeedsNoMemory (statement_of statement.now) → result ≢ Stepped.NoMemory }
+    {
+        if self.lacks_level(statement) {
+            return Stepped::Refused(Refusal::NoLevel);
+        }
+        match statement {
+            Statement::Empty => Stepped::Written,
+            Statement::Level(k) => match self.set_level(*k) {
+                Ok(()) => Stepped::Written,
+                Err(refusal) => Stepped::Refused(refusal),
+            },
+            Statement::Vars(names) => changed(self.declare(names.items())),
+            Statement::Let(name, expr) => changed(self.define(name, expr)),
+            Statement::Value(name, bits) => answer_always(out, self.value(name, bits)),
+            Statement::First(name, v) => answer_always(out, self.first(name, *v)),
+            Statement::List(name, v, most) => self.step_list(name, *v, *most, out),
+            Statement::Equal(name, other) => answer(out, self.equal(name, other)),
+            Statement::Size(name) => answer(out, self.size(name)),
+            Statement::Stats => answer(out, self.stats()),
+        }
+    }
+
+    /// Carries out a statement, and writes its reply. Whatever the answer is but `Written`, level
+    /// and names are as before; and nothing was written, but on `WriteFault` a front of the reply.
+    /// The files are left alone.
+    pub fn step<F: Files, K: Sink>(
+        &mut self,
+        files: &mut F,
+        statement: &Statement,
+        out: &mut K,
+    ) -> Stepped
+        requires { Formed (statement_of statement.now) }
+        ensures leads { LeadsTo (step (state_of self.old) (statement_of statement.now)) self.old self.new result }
+        ensures replies { IsTrue (K.tells out.old) → Replies (step (state_of self.old) (statement_of statement.now)) (K.written out.old) (K.written out.new) result }
+        ensures complete { (Rose (K.faults out.old) (K.faults out.new) → ⊥) → result ≢ Stepped.NoMemory
+            → IsAnswerTo (step (state_of self.old) (statement_of statement.now)) result }
+        ensures memory { NeedsNoMemory (statement_of statement.now) → result ≢ Stepped.NoMemory }
+        ensures write { result ≡ Stepped.WriteFault → Rose (K.faults out.old) (K.faults out.new) }
+        ensures file { result ≢ Stepped.FileFault }
+        ensures kept { Keeps self.old.pkg self.new.pkg }
+        ensures told { K.tells out.new ≡ K.tells out.old }
+        ensures later { K.faults out.old ≤ K.faults out.new }
+        ensures files { files.new ≡ files.old }
+    {
+        let _ = files;
+        self.step_on(statement, out)
+    }
+}
