@@ -1,5 +1,6 @@
 #!/usr/bin/env bash
-# Counts the instructions of the workloads of cf_bench under callgrind, making the script included.
+# Counts the instructions of the workloads of cf_bench under callgrind, making the script included, and then those of the
+# program on the scripts of scripts.py. A program's start is taken off.
 set -eu
 cd "$(dirname "${BASH_SOURCE[0]}")/../crates/cf_bench"
 words=$(tr '\n' ' ' <args)
@@ -21,4 +22,17 @@ for workload in "values 100000" "names 1000" "line 4096" "line 8192" "line 16384
     "nesting 1024" "nesting 8192" "nesting 65536"; do
     # shellcheck disable=SC2086
     echo "$workload: $(($(instructions $workload) - base))"
+done
+
+program=../../out/cflobdd
+scripted() {
+    valgrind --tool=callgrind --callgrind-out-file="$log.out" "$program" run 2>&1 >/dev/null |
+        sed -n 's/.*Collected : \([0-9]*\).*/\1/p'
+}
+
+../../cflobdd run </dev/null
+base=$(scripted </dev/null)
+for workload in "parity 64" "parity 128" "conjunctions 25" "conjunctions 50" "conjunctions 100" "adder 16" "adder 32"; do
+    # shellcheck disable=SC2086
+    echo "script of $workload: $(($(python3 ../../bench/scripts.py $workload | scripted) - base))"
 done

@@ -10,6 +10,7 @@ mod script;
 ghost use Rattle.std.specs.Prelude.{◌≤◌, IfSome};
 
 use cf_io::{MemFiles, MemSink, MemSource};
+use cf_session::Session;
 use cf_top::run;
 use pairs::paired_projections;
 use parity::parity_of_variables;
@@ -28,7 +29,15 @@ fn measure_script(rt: &(impl Print + AllocGlobal), kind: &Script) -> io::Result<
     let mut source = MemSource::new(script, kind.piece(), 0, Vec::new(alloc));
     let mut files = MemFiles::new(Vec::new(alloc), 1, Vec::new(alloc));
     let mut sink = MemSink::new(alloc, room, room.max(1), Vec::new(alloc))?;
-    let status = run(alloc, &words, &mut source, &mut files, &mut sink);
+    let mut session = Session::new(alloc)?;
+    let status = run(
+        alloc,
+        &words,
+        &mut session,
+        &mut source,
+        &mut files,
+        &mut sink,
+    );
     println!(rt; "{kind} {status:?} {}", sink.bytes().len())
 }
 

@@ -1,7 +1,5 @@
 pub mod Examples
-pub mod WordLaws
 pub mod LineLaws
-pub mod RunLaws
 pub mod GrammarLaws
 pub mod ParsedLaws
 pub mod GrammarExamples

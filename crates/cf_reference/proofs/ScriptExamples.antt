@@ -1,5 +1,5 @@
 -- The reference run on worked scripts.
-use Rattle.std.proofs.Common.{◌≡◌, List, [], ◌∷◌, ◌++◌, refl}
+use Rattle.std.proofs.Common.{◌≡◌, List, [], ◌∷◌, ◌++◌, Some, refl}
 use Rattle.std.specs.Prelude.{ℕ, codes, pos}
 use Rattle.std.specs.Fmt.{digits}
 use Rattle.cf_model.specs.Assignments.{all_bits}
@@ -14,7 +14,7 @@ use Rattle.cf_reference.specs.Expressions.{level, walk, value}
 use Rattle.cf_reference.specs.Failures.{parts, failure}
 use Rattle.cf_reference.specs.States.{initial}
 use Rattle.cf_reference.specs.Carrying.{step}
-use Rattle.cf_reference.specs.Scripts.{text_of, carry_fitting, Usage, carry, run_lines, ref}
+use Rattle.cf_reference.specs.Scripts.{text_of, carry_fitting, Done, Refused, Usage, carry, run_lines, ref}
 use Rattle.cf_reference.specs.Lines.{lines, LineTooLong, ScriptTooLong}
 
 -- the lines of a script, each ended by a newline
@@ -193,3 +193,13 @@ long_script = refl
 
 other_words : (ref (codes "run" ∷ codes "extra" ∷ []) []).close ≡ Usage
 other_words = refl
+
+-- a last line without a newline is carried out, and its refusal ends the run
+read_to_its_end : ref (codes "run" ∷ []) (codes "level 0" ++ 10 ∷ codes "value f 0")
+    ≡ record { text = codes "refused 2 6" ++ 10 ∷ []; close = Refused; state = record initial { level = Some 0 }; read = 17 }
+unfolding text
+read_to_its_end = refl
+
+done_at_the_end : (ref (codes "run" ∷ []) (codes "level 0" ++ 10 ∷ [])).close ≡ Done
+unfolding text
+done_at_the_end = refl

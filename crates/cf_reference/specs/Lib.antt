@@ -1,9 +1,5 @@
 pub mod Lines
 pub mod Replies
-pub mod Refusals
-pub mod Statements
-pub mod Steps
-pub mod Run
 pub mod Words
 pub mod Trees
 pub mod Grammar

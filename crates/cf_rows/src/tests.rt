@@ -1,4 +1,5 @@
 use cf_io::{MemFiles, MemSink, MemSource};
+use cf_session::Session;
 use cf_top::{Status, run};
 use std::alloc::Global;
 use std::process::Abort;
@@ -40,14 +41,22 @@ fn answer(
     let mut source = MemSource::new(script.to_vec(alloc)?, handing.piece, handing.cut, fails);
     let mut files = MemFiles::new(Vec::new(alloc), 1, Vec::new(alloc));
     let mut sink = MemSink::new(alloc, ROOM, ROOM, Vec::new(alloc))?;
-    let status = run(alloc, &owned, &mut source, &mut files, &mut sink);
+    let mut session = Session::new(alloc)?;
+    let status = run(
+        alloc,
+        &owned,
+        &mut session,
+        &mut source,
+        &mut files,
+        &mut sink,
+    );
     Ok((status, sink.bytes().to_vec(alloc)?))
 }
 
 #[test]
 fn rows_write_their_text_and_end_with_their_status(rt: HostRuntime) -> Result<(), Fail> {
     let usage = "usage: cflobdd run | gen N | check A B | dump FILE\n";
-    let rows: [(&[&str], &[u8], &str, Status); 9] = [
+    let rows: [(&[&str], &[u8], &str, Status); 22] = [
         (&["run"], b"", "", Status::Done),
         (&["run"], ONE_VARIABLE, "0\n1\n", Status::Done),
         (
@@ -64,15 +73,83 @@ fn rows_write_their_text_and_end_with_their_status(rt: HostRuntime) -> Result<()
         ),
         (
             &["run"],
-            b"level 0\nvalue  f 0\nvalue f 0\n",
+            b"level 0\nvalue f\nvalue f 0\n",
             "refused 2 1\n",
             Status::Refused,
         ),
         (&["run"], b"let f = 1\n", "refused 1 4\n", Status::Refused),
         (
             &["run"],
-            b"level 1\nvalue f 10\n",
+            b"level 1\nvalue f 0\n",
             "refused 2 6\n",
+            Status::Refused,
+        ),
+        (
+            &["run"],
+            b"level 1\nvar a a\n",
+            "refused 2 7\n",
+            Status::Refused,
+        ),
+        (
+            &["run"],
+            b"level 1\nvar a b c\n",
+            "refused 2 8\n",
+            Status::Refused,
+        ),
+        (
+            &["run"],
+            b"level 1\nlet f = @2\n",
+            "refused 2 11\n",
+            Status::Refused,
+        ),
+        (
+            &["run"],
+            b"level 1\nlevel 1\n",
+            "refused 2 5\n",
+            Status::Refused,
+        ),
+        (
+            &["run"],
+            b"level 1\nlet f = and(@0)\n",
+            "refused 2 1\n",
+            Status::Refused,
+        ),
+        (&["run"], b"stats\n", "refused 1 4\n", Status::Refused),
+        (&["run"], b"level 8\n", "refused 1 10\n", Status::Refused),
+        (
+            &["run"],
+            b"level 1\nlet f = plus(170141183460469231731687303715884105727, @0)\n",
+            "refused 2 14 10\n",
+            Status::Refused,
+        ),
+        (
+            &["run"],
+            b"level 1\nlet f = and(@0,@1)\nsize f\nfirst f 1\nfirst f 7\n",
+            "size 2 1 exits 2\n11\nnone\n",
+            Status::Done,
+        ),
+        (
+            &["run"],
+            b"level 3\nlet f = @5\nsize f\n",
+            "size 2 2 2 1 exits 2\n",
+            Status::Done,
+        ),
+        (
+            &["run"],
+            b"level 1\nlet a = and(@0,@1)\nlet o = or(@0,@1)\nequal a a\nequal a o\n",
+            "equal\ndifferent 01 0 1\n",
+            Status::Done,
+        ),
+        (
+            &["run"],
+            b"level 1\nlet f = @0\nlet g = f\nlet f = not(f)\nequal f g\n",
+            "different 00 1 0\n",
+            Status::Done,
+        ),
+        (
+            &["run"],
+            b"level 0\nlet z = -170141183460469231731687303715884105728\nlet f = neg(z)\n",
+            "refused 3 14 0\n",
             Status::Refused,
         ),
         (&["run", "extra"], ONE_VARIABLE, usage, Status::Usage),

@@ -2,10 +2,12 @@
 use Rattle.std.proofs.Common.{ℕ, ◌≡◌, ◌+◌, ◌≤◌, true, false, List, [], ◌∷◌, ◌++◌, take, drop, refl, ap, sym, ◌∙◌, subst, append_assoc, append-nil}
 use Rattle.std.proofs.lemmas.List.{take-append-drop}
 use Rattle.cf_reference.specs.Lines.{Line, fit, known_by, size, lines}
-use Rattle.cf_reference.specs.Steps.{State, Outcome}
-use Rattle.cf_reference.specs.Run.{Close, Done, Refused, Ending, adds, run_lines, carry, text_of, state_of, refuses}
-use Rattle.cf_reference.proofs.RunLaws.{adds-adds, run_lines-nil, run_lines-goes, run_lines-refused, run_lines-text}
-use Rattle.cf_top.specs.Ends.{AppendsFront, Ends}
+use Rattle.cf_reference.specs.States.{State}
+use Rattle.cf_reference.specs.Carrying.{Outcome}
+use Rattle.cf_reference.specs.Scripts.{Close, Done, Refused, Ending, adds, run_lines, carry, text_of, state_of, refuses}
+use Rattle.cf_reference.proofs.ScriptLaws.{adds-adds, run_lines-nil, run_lines-goes, run_lines-refused, run_lines-text}
+use Rattle.cf_session.specs.Stepping.{AppendsFront}
+use Rattle.cf_top.specs.Ends.{Ends}
 
 -- The whole run's end is the text that was written so far, and then the rest of the run.
 pub record Follows (whole rest : Ending) (before now : List ℕ) : Type 0 where
@@ -47,15 +49,17 @@ cut_in_text whole rest before now after text more follows e fails = record {
 }
 
 -- where the rest of the run adds one text and closes, the whole run does
-pub closes : (whole rest : Ending) (before now after : List ℕ) (close : Close) (from upto : ℕ) → Follows whole rest before now → after ≡ now ++ rest.text → rest.close ≡ close → from + rest.read ≤ upto
-    → Ends whole close before after from upto
-closes whole rest before now after close from upto follows written closed read = record {
+pub closes : (whole rest : Ending) (before now after : List ℕ) (close : Close) (from upto : ℕ) (left : State)
+    → Follows whole rest before now → after ≡ now ++ rest.text → rest.close ≡ close → left ≡ rest.state → from + rest.read ≤ upto
+    → Ends whole close before after from upto left
+closes whole rest before now after close from upto left follows written closed state read = record {
   text =
       written
       ∙ ap (λ w. w ++ rest.text) follows.written
       ∙ append_assoc before follows.so_far rest.text
       ∙ ap (λ w. before ++ w) (sym (ap (λ (end : Ending). end.text) follows.ending));
   closed = ap (λ (end : Ending). end.close) follows.ending ∙ closed;
+  state = state ∙ sym (ap (λ (end : Ending). end.state) follows.ending);
   read = subst (λ n. from + n ≤ upto) (sym (ap (λ (end : Ending). end.read) follows.ending)) read;
 }
 
@@ -70,12 +74,13 @@ front_of_take before after text h = record {
 
 -- nothing is left: the run is done
 pub done_here : (whole : Ending) (s : State) (n handed from upto : ℕ) (before now old : List ℕ) → Follows whole (run_lines s n handed (lines old)) before now → lines old ≡ [] → from + handed ≤ upto
-    → Ends whole Done before now from upto
+    → Ends whole Done before now from upto s
 done_here whole s n handed from upto before now old follows none read =
     let e = ap (run_lines s n handed) none ∙ run_lines-nil s n handed in
-    closes whole (run_lines s n handed (lines old)) before now now Done from upto follows
+    closes whole (run_lines s n handed (lines old)) before now now Done from upto s follows
     (sym (ap (λ (end : Ending). now ++ end.text) e ∙ append-nil now))
     (ap (λ (end : Ending). end.close) e)
+    (sym (ap (λ (end : Ending). end.state) e))
     (subst (λ k. from + k ≤ upto) (sym (ap (λ (end : Ending). end.read) e)) read)
 
 -- a line that goes on
@@ -90,12 +95,13 @@ line_goes whole s n handed before now after old line more outcome follows e carr
 -- a line that is refused
 pub line_refused : (whole : Ending) (s : State) (n handed from upto : ℕ) (before now after old : List ℕ) (line : Line) (more : List Line) (outcome : Outcome)
     → Follows whole (run_lines s n handed (lines old)) before now → lines old ≡ line ∷ more → carry s handed line ≡ outcome → refuses outcome ≡ true → after ≡ now ++ text_of n outcome
-    → from + known_by handed line (fit handed line) ≤ upto → Ends whole Refused before after from upto
+    → from + known_by handed line (fit handed line) ≤ upto → Ends whole Refused before after from upto s
 line_refused whole s n handed from upto before now after old line more outcome follows e carried refused written read =
     let end = ap (run_lines s n handed) e ∙ run_lines-refused s n handed line more outcome carried refused in
-    closes whole (run_lines s n handed (lines old)) before now after Refused from upto follows
+    closes whole (run_lines s n handed (lines old)) before now after Refused from upto s follows
     (written ∙ sym (ap (λ (end : Ending). now ++ end.text) end))
     (ap (λ (end : Ending). end.close) end)
+    (sym (ap (λ (end : Ending). end.state) end))
     (subst (λ k. from + k ≤ upto) (sym (ap (λ (end : Ending). end.read) end)) read)
 
 -- a line whose text couldn't be written

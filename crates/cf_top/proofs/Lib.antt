@@ -1,3 +1,3 @@
-pub mod Bindings
 pub mod Following
 pub mod Turns
+pub mod Carried

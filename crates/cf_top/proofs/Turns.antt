@@ -1,30 +1,39 @@
 -- What one turn of the loop over a script's lines comes to.
-use Rattle.std.proofs.Common.{ℕ, ◌≡◌, ◌+◌, ◌≤◌, ◌<◌, Bool, false, List, [], ◌∷◌, length, IsTrue, refl, ap, sym, ◌∙◌, subst, arith, cond}
+use Rattle.std.proofs.Common.{ℕ, ◌≡◌, ◌+◌, ◌≤◌, ◌<◌, Bool, true, false, List, [], ◌∷◌, length, IsTrue, refl, ap, sym, ◌∙◌, subst, arith, cond}
+use Rattle.std.proofs.lemmas.Bool.{false≢true}
 use Rattle.cf_reference.specs.Lines.{Line, Fit, Fits, LineTooLong, ScriptTooLong, fit, known_by, lines}
-use Rattle.cf_reference.specs.Statements.{parse}
-use Rattle.cf_reference.specs.Steps.{State, Outcome, initial}
-use Rattle.cf_reference.specs.Run.{Done, Usage, Ending, run_lines, carry, carry_fitting, step_parsed, ref, is_run}
+use Rattle.cf_reference.specs.Parsing.{parse}
+use Rattle.cf_reference.specs.States.{State, initial}
+use Rattle.cf_reference.specs.Carrying.{Outcome, Refuses, Goes}
+use Rattle.cf_reference.specs.Scripts.{state_of, refuses, Done, Refused, Usage, Ending, run_lines, carry, carry_fitting, step_parsed, ref, is_run}
 use Rattle.cf_reference.specs.Replies.{usage_reply}
-use Rattle.cf_reference.proofs.RunLaws.{carry-fit}
+use Rattle.cf_reference.proofs.ScriptLaws.{carry-fit}
 use Rattle.cf_io.specs.Held.{Held, taken_by}
 use Rattle.cf_io.specs.LineSteps.{HandsOut, IsFirst, BeginsTooLong, Moves, Advances, answer_of}
 use Rattle.cf_io.specs.declared.lines.Next.{Next}
 use Rattle.cf_io.specs.declared.lines.Next.TheVariants as next
 use Rattle.std.proofs.Common.{Bor}
-use Rattle.cf_top.specs.Ends.{AppendsFront, Ends, Meets}
+use Rattle.cf_session.specs.Stepping.{AppendsFront}
+use Rattle.cf_top.specs.Ends.{Ends, Meets}
 use Rattle.cf_top.specs.Carrying.{StopsAt, Carries}
 use Rattle.cf_top.specs.declared.script.Carried.TheVariants as carried
 use Rattle.cf_top.specs.declared.status.Status.{Status}
 use Rattle.cf_top.specs.declared.status.Status.TheVariants as status
 use Rattle.cf_top.proofs.Following.{Follows, cut_off, line_goes, line_refused, line_fails, done_here}
 
+-- a refused line leaves the state
+kept_state : (s : State) (outcome : Outcome) → refuses outcome ≡ true → state_of s outcome ≡ s
+kept_state s (Refuses r) e = refl
+kept_state s (Goes t reply) e = absurd (false≢true e)
+
 -- a line that stops the run
 pub stops_here : (whole : Ending) (s s' : State) (n handed from upto : ℕ) (before now after old : List ℕ) (line : Line) (more : List Line) (outcome : Outcome) (how : Status)
     → Follows whole (run_lines s n handed (lines old)) before now → lines old ≡ line ∷ more → carry s handed line ≡ outcome → StopsAt outcome n s now s' after how
-    → from + known_by handed line (fit handed line) ≤ upto → Meets whole before after from upto how
+    → from + known_by handed line (fit handed line) ≤ upto → Meets whole before after from upto s' how
 stops_here whole s s' n handed from upto before now after old line more outcome status.Done follows e carries stops read = absurd stops
 stops_here whole s s' n handed from upto before now after old line more outcome status.Refused follows e carries stops read =
-    line_refused whole s n handed from upto before now after old line more outcome follows e carries stops.0 stops.1.text read
+    subst (Ends whole Refused before after from upto) (sym (stops.1.state ∙ kept_state s outcome stops.0))
+    (line_refused whole s n handed from upto before now after old line more outcome follows e carries stops.0 stops.1.text read)
 stops_here whole s s' n handed from upto before now after old line more outcome status.Usage follows e carries stops read = absurd stops
 stops_here whole s s' n handed from upto before now after old line more outcome status.ReadFault follows e carries stops read = absurd stops
 stops_here whole s s' n handed from upto before now after old line more outcome status.WriteFault follows e carries stops read =
@@ -36,7 +45,7 @@ stops_here whole s s' n handed from upto before now after old line more outcome 
 -- a line that is not too long stops the run
 pub line_stops : (whole : Ending) (s s' : State) (n from upto : ℕ) (held kept : Held) (before now after old new line : List ℕ) (newline : Bool) (how : Status)
     → Follows whole (run_lines s n held.handed (lines old)) before now → IsFirst held kept old new line newline → StopsAt (step_parsed s (parse line)) n s now s' after how
-    → from + (held.handed + length line) ≤ upto → Meets whole before after from upto how
+    → from + (held.handed + length line) ≤ upto → Meets whole before after from upto s' how
 line_stops whole s s' n from upto held kept before now after old new line newline how follows first stops read =
     let here : Line = record { bytes = line; newline = newline } in
     stops_here whole s s' n held.handed from upto before now after old (record { bytes = line; newline = newline }) (lines new) (step_parsed s (parse line)) how follows first.lines
@@ -55,7 +64,7 @@ line_turns whole s s' n held kept before now after old new line newline follows 
 -- a line that is too long stops the run
 pub long_stops : (whole : Ending) (s : State) (n from upto : ℕ) (held : Held) (before now after old : List ℕ) (long : Fit) (outcome : Outcome) (how : Status)
     → Follows whole (run_lines s n held.handed (lines old)) before now → BeginsTooLong held old long → ((line : Line) → carry_fitting s line.bytes long ≡ outcome) → StopsAt outcome n s now s after how
-    → ((line : Line) → from + known_by held.handed line long ≤ upto) → Meets whole before after from upto how
+    → ((line : Line) → from + known_by held.handed line long ≤ upto) → Meets whole before after from upto s how
 long_stops whole s n from upto held before now after old long outcome how follows begins refuses stops read =
     stops_here whole s s n held.handed from upto before now after old begins.line begins.more outcome how follows begins.lines
     (carry-fit s held.handed begins.line long begins.long ∙ refuses begins.line) stops
@@ -67,7 +76,7 @@ lines-nil = refl
 
 -- the end of the source ends the run
 pub end_stops : (whole : Ending) (s : State) (n handed from upto : ℕ) (before now old : List ℕ) → Follows whole (run_lines s n handed (lines old)) before now → old ≡ [] → from + handed ≤ upto
-    → Ends whole Done before now from upto
+    → Ends whole Done before now from upto s
 end_stops whole s n handed from upto before now old follows none read =
     done_here whole s n handed from upto before now old follows (ap lines none ∙ lines-nil) read
 

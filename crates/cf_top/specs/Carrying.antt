@@ -1,7 +1,8 @@
 use Rattle.std.specs.Prelude.{ℕ, ◌≡◌, List, ◌++◌, true, false}
-use Rattle.cf_reference.specs.Steps.{State, Outcome}
-use Rattle.cf_reference.specs.Run.{text_of, state_of, refuses}
-use Rattle.cf_top.specs.Ends.{AppendsFront}
+use Rattle.cf_reference.specs.States.{State}
+use Rattle.cf_reference.specs.Carrying.{Outcome}
+use Rattle.cf_reference.specs.Scripts.{text_of, state_of, refuses}
+use Rattle.cf_session.specs.Stepping.{AppendsFront}
 use Rattle.cf_top.specs.declared.script.Carried.{Carried}
 use Rattle.cf_top.specs.declared.script.Carried.TheVariants as carried
 use Rattle.cf_top.specs.declared.status.Status.{Status}

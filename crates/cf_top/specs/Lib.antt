@@ -1,4 +1,3 @@
 pub mod Views
-pub mod Stepping
 pub mod Ends
 pub mod Carrying

@@ -1,40 +1,45 @@
 // A run of the program over any source, files and sink.
 #![tactic(auto)]
 
-mod refusal;
+mod reason;
 mod script;
-mod session;
-mod statement;
 mod status;
 
 ghost use Rattle.std.specs.Prelude.{◌≡◌, ◌≢◌, ℕ, ◌+◌, ◌≤◌, ◌⊎◌, List, [], ◌∷◌, ◌++◌, IsTrue, true, false, map, string_bytes};
 ghost use Rattle.cf_io.specs.Causes.{Rose};
-ghost use Rattle.cf_reference.specs.Run.{ref, is_run, Ending};
+ghost use Rattle.cf_reference.specs.States.{initial};
+ghost use Rattle.cf_reference.specs.Scripts.{ref, is_run, Ending};
+ghost use Rattle.cf_session.specs.Sessions.{state_of};
 ghost use Rattle.cf_top.specs.Ends.{Meets, Completes};
 
 use cf_io::{Files, Sink, Source, put_all};
+use cf_session::Session;
 use cf_text::usage_text;
 use script::run_script;
 pub use status::Status;
 use std::alloc::Global;
 
-/// Does what the words say: `run` carries out the script, and any other words get the usage line.
+/// Does what the words say: `run` carries out the script in the session, which has neither a level nor names, and any
+/// other words get the usage line.
 ///
 /// The script's replies are written to `out`, line by line, and the last one is a refusal where a line is refused. No
 /// statement opens a file yet.
 pub fn run<S: Source, F: Files, K: Sink>(
     alloc: Global,
     words: &[String],
+    session: &mut Session,
     script: &mut S,
     files: &mut F,
     out: &mut K,
 ) -> Status
-    // Where the bytes that are read and written are told, the reference run says what is written and how it ends. Only a
-    // fault or want of memory cuts it off.
+    requires fresh { state_of session.old ≡ initial }
+
+    // Where the bytes that are read and written are told, the reference run says what is written, how it ends and which
+    // level and names the session has then. Only a fault or want of memory cuts it off.
     ensures run { let said = map string_bytes words.now in
         (IsTrue (is_run said) → IsTrue (S.tells script.old)) → IsTrue (K.tells out.old) →
         Meets (ref said (S.left script.old)) (K.written out.old) (K.written out.new)
-        (S.taken script.old) (S.taken script.new) result }
+        (S.taken script.old) (S.taken script.new) (state_of session.new) result }
     ensures complete { let said = map string_bytes words.now in
         (IsTrue (is_run said) → IsTrue (S.tells script.old)) → IsTrue (K.tells out.old) →
         ¬ Rose (S.faults script.old) (S.faults script.new) →
@@ -51,7 +56,7 @@ pub fn run<S: Source, F: Files, K: Sink>(
     ensures usage { result ≡ Status.Usage → is_run (map string_bytes words.now) ≡ false }
     ensures others { is_run (map string_bytes words.now) ≡ false →
         (result ≡ Status.Usage) ⊎ (result ≡ Status.WriteFault) }
-    ensures unread { is_run (map string_bytes words.now) ≡ false → script.new ≡ script.old }
+    ensures unread { is_run (map string_bytes words.now) ≡ false → (script.new ≡ script.old) × (session.new ≡ session.old) }
 
     // Faults have causes.
     ensures read { result ≡ Status.ReadFault → Rose (S.faults script.old) (S.faults script.new) }
@@ -63,9 +68,8 @@ pub fn run<S: Source, F: Files, K: Sink>(
     ensures later { (S.faults script.old ≤ S.faults script.new) × (K.faults out.old ≤ K.faults out.new) }
     ensures files { files.new ≡ files.old }
 {
-    let _ = files;
     if is_run(words) {
-        run_script(alloc, script, out)
+        run_script(alloc, session, script, files, out)
     } else if put_all(out, usage_text().bytes()) {
         Status::Usage
     } else {

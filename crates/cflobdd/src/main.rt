@@ -2,7 +2,8 @@
 #![tactic(auto)]
 
 use cf_io::{HostSink, HostSource, MemFiles};
-use cf_top::run;
+use cf_session::Session;
+use cf_top::{Status, run};
 use std::env;
 use std::process::ExitCode;
 use std::rt::Env;
@@ -24,9 +25,19 @@ fn main(rt: HostRuntime) -> ExitCode {
         return ExitCode::from(NO_WORDS);
     };
     let alloc = rt.alloc();
+    let Ok(mut session) = Session::new(alloc) else {
+        return ExitCode::from(Status::NoMemory.code());
+    };
     let mut script = HostSource::new(rt.stdin());
     let mut files = MemFiles::new(Vec::new(alloc), 1, Vec::new(alloc));
     let mut out = HostSink::new(rt.stdout());
-    let status = run(alloc, &words, &mut script, &mut files, &mut out);
+    let status = run(
+        alloc,
+        &words,
+        &mut session,
+        &mut script,
+        &mut files,
+        &mut out,
+    );
     ExitCode::from(status.code())
 }

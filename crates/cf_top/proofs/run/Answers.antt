@@ -1,6 +1,6 @@
 use Rattle.std.proofs.Common.{sym, ap, ◌∙◌, subst, map, string_bytes}
-use Rattle.cf_reference.specs.Run.{Ending}
-use Rattle.cf_top.specs.Ends.{AppendsFront}
+use Rattle.cf_reference.specs.Scripts.{Ending}
+use Rattle.cf_session.specs.Stepping.{AppendsFront}
 use Rattle.cf_top.proofs.Following.{front_of_take}
 use Rattle.cf_top.proofs.Turns.{ref-others}
 use Rattle.cf_top.proofs.run.Goals as goal

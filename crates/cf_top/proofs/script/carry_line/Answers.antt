@@ -1,26 +1,32 @@
-use Rattle.std.proofs.Common.{ap, sym, subst, ◌∙◌}
-use Rattle.cf_reference.specs.Steps.{State, Outcome, Refuses}
-use Rattle.cf_top.specs.Views.{refusal_view}
-use Rattle.std.specs.Int.{w128}
-use Rattle.std.proofs.Common.{rules}
-use Rattle.std.proofs.lemmas.Int.{to_z-of_z}
-use Rattle.cf_reference.specs.Replies.{value_reply}
-use Rattle.cf_reference.specs.Run.{text_of}
-use Rattle.cf_top.specs.Carrying.{StopsAt}
-use Rattle.cf_top.specs.Ends.{AppendsFront}
-use Rattle.cf_top.proofs.Following.{front_of_take}
+use Rattle.std.proofs.Common.{Err, ap, subst}
+use Rattle.cf_reference.specs.Carrying.{Outcome}
+use Rattle.cf_reference.specs.LineRefusals.{TooDeep, Malformed, WideNumber, Good}
+use Rattle.cf_script.specs.Views.{statement_of}
+use Rattle.cf_session.specs.Sessions.{state_of}
+use Rattle.cf_top.specs.Carrying.{StopsAt, Carries}
+use Rattle.cf_top.proofs.Carried.{parsed}
 use Rattle.cf_top.proofs.script.carry_line.Goals as goal
 
-pub returns-else-put_all-clause-carries : goal.returns-else-put_all-clause-carries
-returns-else-put_all-clause-carries g c = λ told.
-    subst (AppendsFront (g.K.Sink.written c.args.out.now) (g.K.Sink.written c.put_all.new.out))
-    (c.bytes.ensures.bytes ∙ c.value_text.ensures ∙ ap value_reply (to_z-of_z w128 c.in-Says.value (search rules)) ∙ sym (ap (text_of c.args.number) c.in-Says.ensures))
-    (front_of_take _ _ _ (c.put_all.ensures.front told))
+pub returns-in-Ok-clause-carries : goal.returns-in-Ok-clause-carries
+returns-in-Ok-clause-carries g c = λ told.
+    subst (λ (o : Outcome). Carries o c.args.number (state_of c.args.session.now) (g.K.Sink.written c.args.out.now) (state_of c.carry_statement.new.session) (g.K.Sink.written c.carry_statement.new.out) c.carry_statement.result)
+    (parsed (state_of c.args.session.now) c.args.line.now (Good (statement_of c.in-Ok.statement)) c.in-Ok.ensures.spelled)
+    (c.carry_statement.ensures.carries told)
 
-pub returns-in-Refused-clause-carries : goal.returns-in-Refused-clause-carries
-returns-in-Refused-clause-carries g c = λ told.
-    subst (λ (outcome : Outcome). StopsAt outcome c.args.number c.args.session.now (g.K.Sink.written c.args.out.now) c.carry.new.session (g.K.Sink.written c.refuse.new.out) c.refuse.result)
-    (sym c.in-Refused.ensures.0)
-    (subst (λ (new : State). StopsAt (Refuses (refusal_view c.in-Refused.refusal)) c.args.number c.args.session.now (g.K.Sink.written c.args.out.now) new (g.K.Sink.written c.refuse.new.out) c.refuse.result)
-    (sym c.in-Refused.ensures.1)
-    (c.refuse.ensures.refused told c.args.session.now))
+pub returns-in-Err-Malformed-clause-carries : goal.returns-in-Err-Malformed-clause-carries
+returns-in-Err-Malformed-clause-carries g c = λ told.
+    subst (λ (o : Outcome). StopsAt o c.args.number (state_of c.args.session.now) (g.K.Sink.written c.args.out.now) (state_of c.args.session.now) (g.K.Sink.written c.refuse.new.out) c.refuse.result)
+    (parsed (state_of c.args.session.now) c.args.line.now Malformed (c.in-Err-Malformed.ensures.malformed (ap Err c.in-Err-Malformed.field-0-is)))
+    (c.refuse.ensures.refused told (state_of c.args.session.now))
+
+pub returns-in-Err-WideNumber-clause-carries : goal.returns-in-Err-WideNumber-clause-carries
+returns-in-Err-WideNumber-clause-carries g c = λ told.
+    subst (λ (o : Outcome). StopsAt o c.args.number (state_of c.args.session.now) (g.K.Sink.written c.args.out.now) (state_of c.args.session.now) (g.K.Sink.written c.refuse-in-Err-WideNumber.new.out) c.refuse-in-Err-WideNumber.result)
+    (parsed (state_of c.args.session.now) c.args.line.now WideNumber (c.in-Err-WideNumber.ensures.wide (ap Err c.in-Err-WideNumber.field-0-is)))
+    (c.refuse-in-Err-WideNumber.ensures.refused told (state_of c.args.session.now))
+
+pub returns-in-Err-TooDeep-clause-carries : goal.returns-in-Err-TooDeep-clause-carries
+returns-in-Err-TooDeep-clause-carries g c = λ told.
+    subst (λ (o : Outcome). StopsAt o c.args.number (state_of c.args.session.now) (g.K.Sink.written c.args.out.now) (state_of c.args.session.now) (g.K.Sink.written c.refuse-in-Err-TooDeep.new.out) c.refuse-in-Err-TooDeep.result)
+    (parsed (state_of c.args.session.now) c.args.line.now TooDeep (c.in-Err-TooDeep.ensures.deep (ap Err c.in-Err-TooDeep.field-0-is)))
+    (c.refuse-in-Err-TooDeep.ensures.refused told (state_of c.args.session.now))

@@ -1,10 +1,11 @@
 use Rattle.std.proofs.Common.{◌+◌, ◌++◌, IsTrue, subst, sym, ◌∙◌, arith, refl}
 use Rattle.cf_io.specs.Held.{taken_by}
 use Rattle.cf_reference.specs.Lines.{LineTooLong, ScriptTooLong}
-use Rattle.cf_reference.specs.Refusals as refusal
-use Rattle.cf_reference.specs.Run.{step_parsed}
-use Rattle.cf_reference.specs.Statements.{parse}
-use Rattle.cf_reference.specs.Steps.{Refuses}
+use Rattle.cf_reference.specs.Reasons as reason
+use Rattle.cf_reference.specs.Parsing.{parse}
+use Rattle.cf_reference.specs.Carrying.{Refuses}
+use Rattle.cf_reference.specs.Scripts.{step_parsed}
+use Rattle.cf_session.specs.Sessions.{state_of}
 use Rattle.cf_top.specs.Carrying.{Carries}
 use Rattle.cf_top.proofs.Turns.{line_stops, line_turns, long_stops, end_stops, line_answered, line_moved, end_answered, end_moved, long_answered, long_moved, script_long_answered, script_long_moved, taken_since}
 use Rattle.cf_top.proofs.script.run_lines.Goals as goal
@@ -18,10 +19,10 @@ returns-in-Stops-clause-run g c = λ told_in told_out.
     let first = line_answered _ _ _ _ c.next_line.result c.in-Line.line (next.3 here_in (kept.attached told_in)).0 c.in-Line.is in
     let moved = line_moved _ _ _ _ c.next_line.result c.in-Line.line next.0 c.in-Line.is in
     let taken = taken_since (g.S.Source.taken c.args.script.now) (g.S.Source.taken c.loop-line.script) (g.S.Source.taken c.next_line.new.source) (taken_by c.loop-line.lines) (taken_by c.next_line.follows.lender-at-none) kept.taken next.0.taken in
-    line_stops _ c.loop-line.session c.carry_line.new.session (c.loop-line.number + 1) (g.S.Source.taken c.args.script.now) (g.S.Source.taken c.next_line.new.source) c.loop-line.lines c.next_line.follows.lender-at-none _ _ _
+    line_stops _ (state_of c.loop-line.session) (state_of c.carry_line.new.session) (c.loop-line.number + 1) (g.S.Source.taken c.args.script.now) (g.S.Source.taken c.next_line.new.source) c.loop-line.lines c.next_line.follows.lender-at-none _ _ _
     (c.loop-line.lines.bytes ++ g.S.Source.left c.loop-line.script) _ c.in-Line.line.now first.0 c.in-Stops.status
     (kept.run told_in told_out) first.1
-    (subst (Carries (step_parsed c.loop-line.session (parse c.in-Line.line.now)) (c.loop-line.number + 1) c.loop-line.session (g.K.Sink.written c.loop-line.out) c.carry_line.new.session (g.K.Sink.written c.carry_line.new.out)) c.in-Stops.is (c.carry_line.ensures.carries here_out))
+    (subst (Carries (step_parsed (state_of c.loop-line.session) (parse c.in-Line.line.now)) (c.loop-line.number + 1) (state_of c.loop-line.session) (g.K.Sink.written c.loop-line.out) (state_of c.carry_line.new.session) (g.K.Sink.written c.carry_line.new.out)) c.in-Stops.is (c.carry_line.ensures.carries here_out))
     (omega (arith, taken, moved.1))
 
 pub returns-in-End-clause-run : goal.returns-in-End-clause-run
@@ -33,7 +34,7 @@ returns-in-End-clause-run g c = λ told_in told_out.
     let taken = taken_since (g.S.Source.taken c.args.script.now) (g.S.Source.taken c.loop-line.script) (g.S.Source.taken c.next_line.new.source) (taken_by c.loop-line.lines) (taken_by c.next_line.follows.lender-at-none) kept.taken next.0.taken in
     let ended = end_answered _ _ _ _ c.next_line.result hands c.in-End.is in
     let moved = end_moved _ _ _ _ c.next_line.result next.0 c.in-End.is in
-    end_stops _ c.loop-line.session (c.loop-line.number + 1) c.loop-line.lines.handed (g.S.Source.taken c.args.script.now) (g.S.Source.taken c.next_line.new.source) _ _
+    end_stops _ (state_of c.loop-line.session) (c.loop-line.number + 1) c.loop-line.lines.handed (g.S.Source.taken c.args.script.now) (g.S.Source.taken c.next_line.new.source) _ _
     (c.loop-line.lines.bytes ++ g.S.Source.left c.loop-line.script) (kept.run told_in told_out) ended.0 (omega (arith, taken, moved.0))
 
 pub returns-in-TooLong-clause-run : goal.returns-in-TooLong-clause-run
@@ -46,9 +47,9 @@ returns-in-TooLong-clause-run g c = λ told_in told_out.
     let taken = taken_since (g.S.Source.taken c.args.script.now) (g.S.Source.taken c.loop-line.script) (g.S.Source.taken c.next_line.new.source) (taken_by c.loop-line.lines) (taken_by c.next_line.follows.lender-at-none) kept.taken next.0.taken in
     let begins = long_answered _ _ _ _ c.next_line.result hands c.in-TooLong.is in
     let moved = long_moved _ _ _ _ c.next_line.result next.0 c.in-TooLong.is in
-    long_stops _ c.loop-line.session (c.loop-line.number + 1) (g.S.Source.taken c.args.script.now) (g.S.Source.taken c.next_line.new.source) c.loop-line.lines _ _ _
-    (c.loop-line.lines.bytes ++ g.S.Source.left c.loop-line.script) LineTooLong (Refuses refusal.LineTooLong) c.refuse.result
-    (kept.run told_in told_out) begins (λ _. refl) (c.refuse.ensures.refused here_out c.loop-line.session) (λ _. omega (arith, taken, moved.1))
+    long_stops _ (state_of c.loop-line.session) (c.loop-line.number + 1) (g.S.Source.taken c.args.script.now) (g.S.Source.taken c.next_line.new.source) c.loop-line.lines _ _ _
+    (c.loop-line.lines.bytes ++ g.S.Source.left c.loop-line.script) LineTooLong (Refuses reason.LineTooLong) c.refuse.result
+    (kept.run told_in told_out) begins (λ _. refl) (c.refuse.ensures.refused here_out (state_of c.loop-line.session)) (λ _. omega (arith, taken, moved.1))
 
 pub returns-in-ScriptTooLong-clause-run : goal.returns-in-ScriptTooLong-clause-run
 returns-in-ScriptTooLong-clause-run g c = λ told_in told_out.
@@ -60,9 +61,9 @@ returns-in-ScriptTooLong-clause-run g c = λ told_in told_out.
     let taken = taken_since (g.S.Source.taken c.args.script.now) (g.S.Source.taken c.loop-line.script) (g.S.Source.taken c.next_line.new.source) (taken_by c.loop-line.lines) (taken_by c.next_line.follows.lender-at-none) kept.taken next.0.taken in
     let begins = script_long_answered _ _ _ _ c.next_line.result hands c.in-ScriptTooLong.is in
     let moved = script_long_moved _ _ _ _ c.next_line.result next.0 c.in-ScriptTooLong.is in
-    long_stops _ c.loop-line.session (c.loop-line.number + 1) (g.S.Source.taken c.args.script.now) (g.S.Source.taken c.next_line.new.source) c.loop-line.lines _ _ _
-    (c.loop-line.lines.bytes ++ g.S.Source.left c.loop-line.script) ScriptTooLong (Refuses refusal.ScriptTooLong) c.refuse-in-ScriptTooLong.result
-    (kept.run told_in told_out) begins (λ _. refl) (c.refuse-in-ScriptTooLong.ensures.refused here_out c.loop-line.session) (λ _. omega (arith, taken, moved.1))
+    long_stops _ (state_of c.loop-line.session) (c.loop-line.number + 1) (g.S.Source.taken c.args.script.now) (g.S.Source.taken c.next_line.new.source) c.loop-line.lines _ _ _
+    (c.loop-line.lines.bytes ++ g.S.Source.left c.loop-line.script) ScriptTooLong (Refuses reason.ScriptTooLong) c.refuse-in-ScriptTooLong.result
+    (kept.run told_in told_out) begins (λ _. refl) (c.refuse-in-ScriptTooLong.ensures.refused here_out (state_of c.loop-line.session)) (λ _. omega (arith, taken, moved.1))
 
 pub loop-line-preserved : goal.loop-line-preserved
 loop-line-preserved g c =
@@ -74,6 +75,7 @@ loop-line-preserved g c =
       out_told = c.carry_line.ensures.told ∙ kept.out_told;
       script_later = omega (arith, kept.script_later, c.next_line.ensures.later);
       out_later = omega (arith, kept.out_later, c.carry_line.ensures.later);
+      files = c.carry_line.ensures.files ∙ kept.files;
       within = next.0.within;
       number = omega (arith, kept.number, moved.0);
       taken = taken_since (g.S.Source.taken c.args.script.now) (g.S.Source.taken c.loop-line.script) (g.S.Source.taken c.next_line.new.source) (taken_by c.loop-line.lines) (taken_by c.next_line.follows.lender-at-none) kept.taken next.0.taken;
@@ -85,8 +87,8 @@ loop-line-preserved g c =
           let here_in : IsTrue (g.S.Source.tells c.loop-line.script) = subst IsTrue (sym kept.script_told) told_in in
           let here_out : IsTrue (g.K.Sink.tells c.loop-line.out) = subst IsTrue (sym kept.out_told) told_out in
           let first = line_answered _ _ _ _ c.next_line.result c.in-Line.line (next.3 here_in (kept.attached told_in)).0 c.in-Line.is in
-          line_turns _ c.loop-line.session c.carry_line.new.session (c.loop-line.number + 1) c.loop-line.lines c.next_line.follows.lender-at-none _ _ _
+          line_turns _ (state_of c.loop-line.session) (state_of c.carry_line.new.session) (c.loop-line.number + 1) c.loop-line.lines c.next_line.follows.lender-at-none _ _ _
           (c.loop-line.lines.bytes ++ g.S.Source.left c.loop-line.script) _ c.in-Line.line.now first.0
           (kept.run told_in told_out) first.1
-          (subst (Carries (step_parsed c.loop-line.session (parse c.in-Line.line.now)) (c.loop-line.number + 1) c.loop-line.session (g.K.Sink.written c.loop-line.out) c.carry_line.new.session (g.K.Sink.written c.carry_line.new.out)) c.in_default.is (c.carry_line.ensures.carries here_out));
+          (subst (Carries (step_parsed (state_of c.loop-line.session) (parse c.in-Line.line.now)) (c.loop-line.number + 1) (state_of c.loop-line.session) (g.K.Sink.written c.loop-line.out) (state_of c.carry_line.new.session) (g.K.Sink.written c.carry_line.new.out)) c.in_default.is (c.carry_line.ensures.carries here_out));
     }

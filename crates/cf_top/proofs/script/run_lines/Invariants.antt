@@ -1,7 +1,8 @@
 use Rattle.std.proofs.Common.{◌≡◌, ◌≤◌, ◌+◌, ◌-◌, [], ◌++◌, IsTrue}
 use Rattle.cf_io.specs.Held.{taken_by}
 use Rattle.cf_reference.specs.Lines.{lines}
-use Rattle.cf_reference.specs.Run.{run_lines}
+use Rattle.cf_reference.specs.Scripts.{run_lines}
+use Rattle.cf_session.specs.Sessions.{state_of}
 use Rattle.cf_top.proofs.Following.{Follows}
 use Rattle.cf_top.proofs.script.run_lines.Given as goal
 
@@ -12,14 +13,15 @@ invariant-loop-line g l = record {
   out_told : g.K.Sink.tells l.out ≡ g.K.Sink.tells l.fn.out;
   script_later : g.S.Source.faults l.fn.script ≤ g.S.Source.faults l.script;
   out_later : g.K.Sink.faults l.fn.out ≤ g.K.Sink.faults l.out;
+  files : l.files ≡ l.fn.files;
   within : l.lines.handed ≤ 1073741824;
   number : l.number ≤ l.lines.handed;
   taken : g.S.Source.taken l.fn.script + taken_by l.lines ≡ g.S.Source.taken l.script;
   ended : IsTrue l.lines.ended → IsTrue (g.S.Source.ended l.script);
   attached : IsTrue (g.S.Source.tells l.fn.script) → IsTrue l.lines.ended → g.S.Source.left l.script ≡ [];
   run : IsTrue (g.S.Source.tells l.fn.script) → IsTrue (g.K.Sink.tells l.fn.out) →
-      Follows (run_lines l.fn.session 1 0 (lines (g.S.Source.left l.fn.script)))
-      (run_lines l.session (l.number + 1) l.lines.handed (lines (l.lines.bytes ++ g.S.Source.left l.script)))
+      Follows (run_lines (state_of l.fn.session) 1 0 (lines (g.S.Source.left l.fn.script)))
+      (run_lines (state_of l.session) (l.number + 1) l.lines.handed (lines (l.lines.bytes ++ g.S.Source.left l.script)))
       (g.K.Sink.written l.fn.out) (g.K.Sink.written l.out);
 }
 

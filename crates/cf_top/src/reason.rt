@@ -1,0 +1,46 @@
+ghost use Rattle.std.specs.Prelude.{◌≡◌, ℕ};
+ghost use Rattle.cf_reference.specs.Reasons.{number, detail};
+ghost use Rattle.cf_reference.specs.Replies.{refusal as refusal_reply};
+ghost use Rattle.cf_text.specs.Details.{refused_bytes};
+ghost use Rattle.cf_top.specs.Views.{reason_view};
+
+use cf_session::Refusal;
+use cf_text::Detail;
+
+/// Why a line is refused.
+#[derive(Clone, Copy, Debug)]
+pub(crate) enum Reason {
+    Malformed,
+    LineTooLong,
+    ScriptTooLong,
+    WideNumber,
+    TooDeep,
+    /// The line spells a statement, which the session refuses.
+    Statement(Refusal),
+}
+
+impl Reason {
+    /// The number that the refusal is written with.
+    pub(crate) fn number(&self) -> u8
+        ensures { result ≡ number (reason_view self.now) }
+    {
+        match self {
+            Reason::Malformed => 1,
+            Reason::LineTooLong => 2,
+            Reason::ScriptTooLong => 3,
+            Reason::WideNumber => 12,
+            Reason::TooDeep => 13,
+            Reason::Statement(refusal) => refusal.number(),
+        }
+    }
+
+    /// What is written behind the number.
+    pub(crate) fn detail(&self) -> Detail
+        ensures { (line n : ℕ) → refused_bytes line n result ≡ refusal_reply line n (detail (reason_view self.now)) }
+    {
+        match self {
+            Reason::Statement(Refusal::Overflow(at)) => Detail::At(*at),
+            _ => Detail::Nothing,
+        }
+    }
+}
