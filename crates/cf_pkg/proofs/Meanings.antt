@@ -1,5 +1,8 @@
-use Rattle.std.proofs.Common.{◌≡◌, ℕ, ◌<◌, ◌≤◌, ◌^◌, ℤ, pos, List, [], Bool, length, map, get_or, Some, option_map, sym, subst, ap, ◌∙◌, arith}
+use Rattle.std.proofs.Common.{◌≡◌, ℕ, ◌<◌, ◌≤◌, ◌^◌, ℤ, pos, List, [], Bool, true, false, refl, length, map, get_or, Some, option_map, sym, subst, ap, ◌∙◌, arith}
 use Rattle.std.specs.List.{slice_get}
+use Rattle.std.specs.Prelude.{nat_le}
+use Rattle.std.proofs.lemmas.Bool.Decides.{nat_tests}
+use Rattle.std.proofs.lemmas.List.{get_or_past}
 use mir.Syntax.{w128}
 use mir.Val.{to_z, of_z}
 use Rattle.std.proofs.lemmas.Int.{to_z-of_z}
@@ -8,7 +11,7 @@ use Rattle.cf_model.specs.Renumbering.{AllDiffer}
 use Rattle.cf_model.specs.Assignments.{Assignment, bits, number_of}
 use Rattle.cf_model.specs.Values.{Fits}
 use Rattle.cf_model.specs.FlatFunctions.{IsAssignment, value_at}
-use Rattle.cf_model.specs.Diagrams.{IsGood}
+use Rattle.cf_model.specs.Diagrams.{IsGood, Levels, count}
 use Rattle.cf_model.specs.Functions.{IsFunction, function_of}
 use Rattle.cf_model.proofs.FlatFunctionLaws.{values_agree}
 use Rattle.cf_model.proofs.FunctionLaws.{function_flat, function_unique}
@@ -22,6 +25,17 @@ use Rattle.cf_pkg.specs.Packages.{Package, OwnsFunction, values_of, meaning}
 
 abbrev made : ℕ → ℕ → ℕ → Func
 made l i v = record { head = record { level = l; at = i }; vals = record { at = v } }
+
+-- a table of eight levels has groupings on the levels 0 to 7 alone
+pub low : (t : Levels) (l i : ℕ) → length t ≡ 8 → i < count t l → l ≤ 7
+low t l i eight inside = by (nat_le l 7) refl
+  where
+    by : (b : Bool) → nat_le l 7 ≡ b → l ≤ 7
+    by true e = grind (arith, nat_tests)
+    by false e =
+        let past : length t ≤ l = grind (arith, nat_tests) in
+        let none : count t l ≡ 0 = ap length (get_or_past t l [] past) in
+        omega (arith, none, inside)
 
 -- what is known of an owned function
 pub record Known (p : Package) (f : Func) : Type 0 where

@@ -52,7 +52,7 @@ fn least_number<L: Ledger>(table: &Table, g: Gid, e: u64, steps: &mut Steps<L>) 
 }
 
 /// How many variables a level has.
-fn variables(level: u8) -> u8
+pub fn variables(level: u8) -> u8
     requires { level ≤ 7 }
     ensures { result ≡ 2 ^ level }
 {
@@ -85,8 +85,8 @@ pub(crate) fn least_uncounted<L: Ledger>(table: &Table, g: Gid, e: u64, blank: B
     least(table, g, e, &mut steps)
 }
 
-/// The level of a grouping.
-fn level_within(table: &Table, g: Gid) -> u8
+/// The level of a grouping of a table, which is 0 to 7.
+pub fn level_within(table: &Table, g: Gid) -> u8
     requires { Owns table.now g }
     ensures level { result ≡ g.level }
     ensures within { result ≤ 7 }

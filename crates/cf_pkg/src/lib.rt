@@ -28,7 +28,7 @@ use cf_table::{Gid, Table};
 use cf_tuple::NoMemory;
 use cf_values::{ValueBook, Vid};
 pub use jobs::{Job, OpFault, Recipe};
-pub use least_assignment::least;
+pub use least_assignment::{least, level_within, variables};
 pub use reached::Sizes;
 use std::alloc::Global;
 use std::marker::Model;
@@ -104,14 +104,15 @@ impl Pkg {
         f.head.level
     }
 
-    /// The package is good: so is its table, no list of values stands in it twice, and an owned
-    /// function has one value per exit, and its values differ. It does nothing.
+    /// The package is good: so is its table, no list of values stands in it twice, an owned function
+    /// has one value per exit, its values differ, and no other one means the same. It does nothing.
     pub fn law(&self, f: Func)
         requires owned { OwnsFunction self.now f }
         ensures good { IsGood self.now.groupings.levels }
         ensures level { f.head.level ≤ 7 }
         ensures once { AllDiffer self.now.lists }
         ensures function { IsFunction self.now.groupings.levels f.head.level f.head.at (values_of self.now f) }
+        ensures one { (g : Func) → OwnsFunction self.now g → meaning self.now g ≡ meaning self.now f → g ≡ f }
     {
         self.table.law();
         let _ = self.values.get(f.vals);

@@ -11,7 +11,7 @@ use Rattle.cf_model.specs.FlatFunctions.{FlatFunction, variable}
 use Rattle.cf_pkg.specs.declared.Func.{Func}
 use Rattle.cf_pkg.specs.Packages.{Package, OwnsFunction, meaning}
 use Rattle.cf_reference.specs.States.{is_among, function_named, level_in, named}
-use Rattle.cf_session.specs.Sessions.{Names, names_of, Held, IsHeld, state_of}
+use Rattle.cf_session.specs.Sessions.{Names, names_of, Held, IsHeld, state_of, StandsFor}
 use Rattle.cf_session.specs.Bindings.{bound_to}
 use Rattle.cf_session.proofs.NameFacts.{flipped}
 
@@ -64,11 +64,6 @@ bound-owned p (b ∷ later) name f h e =
     by true e rest =
         subst (λ g. OwnsFunction p g) (same_Some b.1 f e) (All-head (λ b. OwnsFunction p b.1) b later h)
     by false e rest = rest e
-
--- A name that stands for a function of the package.
-pub record StandsFor (h : Held) (name : List ℕ) (f : Func) : Type 0 where
-  pub owned : OwnsFunction h.pkg f
-  pub means : named (state_of h) name ≡ Some (meaning h.pkg f)
 
 pub named-variable : (h : Held) → IsHeld h → (name : List ℕ) (f : Func) → bound_to h.variables name ≡ Some f
     → StandsFor h name f

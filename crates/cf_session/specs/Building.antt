@@ -1,4 +1,4 @@
-use Rattle.std.specs.Prelude.{◌≡◌, is_some, List, Bool, Option, Some, None}
+use Rattle.std.specs.Prelude.{◌≡◌, is_some, List, Bool, true, Option, Some, None}
 use Rattle.std.specs.Option.{option_or, option_map}
 use Rattle.cf_model.specs.Assignments.{bits}
 use Rattle.cf_reference.specs.Trees.{Tree}
@@ -46,7 +46,7 @@ refusal_of s e =
     (unless (is_some s.level) reason.NoLevel)
     (option_or (walk s e) (option_map reason.Overflow (over s e)))
 
--- There was no memory, or the expression is refused with this reason.
+-- There was no memory for an expression whose names, positions and levels are in order, or it is refused with this reason.
 abbrev pub IsFaultOfBuild : State → Tree → StepFault → Type 0
-IsFaultOfBuild s e NoMemory = Unit {0}
+IsFaultOfBuild s e NoMemory = (is_some s.level ≡ true) × (walk s e ≡ None)
 IsFaultOfBuild s e (Refused r) = refusal_of s e ≡ Some (reason_of r)

@@ -1,6 +1,6 @@
-use Rattle.std.specs.Prelude.{◌≡◌, ◌≤◌, ◌^◌, ℕ, List, [], map, length, All, slice_get, Option, Some, None}
+use Rattle.std.specs.Prelude.{◌≡◌, ◌↔◌, ◌≤◌, ◌^◌, ℕ, List, [], map, length, All, slice_get, Option, Some, None}
 use Rattle.cf_model.specs.FlatFunctions.{variable}
-use Rattle.cf_reference.specs.States.{State, level_in}
+use Rattle.cf_reference.specs.States.{State, level_in, named}
 use Rattle.cf_pkg.specs.declared.Func.{Func}
 use Rattle.cf_pkg.specs.Packages.{Package, no_function, OwnsFunction, Means, meaning}
 
@@ -39,6 +39,16 @@ pub record IsHeld (h : Held) : Type 0 where
   pub room : length h.variables ≤ 2 ^ level_in (state_of h)
   pub positions : (i : ℕ) (b : List ℕ × Func) → slice_get h.variables i ≡ Some b → Means h.pkg b.1 (variable (level_in (state_of h)) i)
   pub owned : All (λ b. OwnsFunction h.pkg b.1) h.functions
+
+-- A name that stands for a function of the package.
+pub record StandsFor (h : Held) (name : List ℕ) (f : Func) : Type 0 where
+  pub owned : OwnsFunction h.pkg f
+  pub means : named (state_of h) name ≡ Some (meaning h.pkg f)
+
+-- Of all names that stand for a function, those stand for this one whose flat functions are that of the name.
+abbrev pub IsOneWith : Held → List ℕ → Func → Type 0
+IsOneWith h name f =
+    (other : List ℕ) (g : Func) → StandsFor h other g → ((g ≡ f) ↔ (named (state_of h) other ≡ named (state_of h) name))
 
 -- Level and names are as before.
 pub record KeepsNames (before now : Held) : Type 0 where

@@ -17,10 +17,9 @@ ghost use Rattle.cf_session.specs.Statements.{IsFaultOfStep, IsNamed, IsUnknown}
 
 use crate::faults::{Refusal, StepFault};
 use crate::session::Session;
-use crate::walk::variables;
 use cf_bits::Bits;
 use cf_names::NoMemory;
-use cf_pkg::{Func, Pkg};
+use cf_pkg::{Func, Pkg, variables};
 use cf_table::steps::Steps;
 use cf_text::{
     Text, bits_text, different_text, equal_text, none_text, size_text, stats_text, value_text,

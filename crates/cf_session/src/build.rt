@@ -27,7 +27,8 @@ impl Session {
     /// first refusal in reading order counts: an unknown name, a position or a level out of its
     /// range, or levels that differ. Overflow comes last: where the first part of the expression
     /// that has no value somewhere has none, at its least such assignment. The level and the names
-    /// stay, and each function of the package means what it meant, whatever the answer is.
+    /// stay, and each function of the package means what it meant, whatever the answer is. Memory is
+    /// wanted only once nothing but overflow can refuse the expression.
     pub fn build(&mut self, expr: &Expr<'_>) -> Result<Func, StepFault>
         requires formed { IsFormed (tree_of expr.now) }
         ensures owned { IfOk result (λ f. OwnsFunction self.new.pkg f) }

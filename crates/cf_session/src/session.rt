@@ -3,7 +3,7 @@
 ghost use Rattle.std.specs.Prelude.{◌≡◌, ◌↔◌, ℕ, Option, IfOk, IfSome, IsNone, Some};
 ghost use Rattle.cf_reference.specs.States.{named};
 ghost use Rattle.cf_pkg.specs.Packages.{OwnsFunction, meaning};
-ghost use Rattle.cf_session.specs.Sessions.{nothing_held, state_of, IsHeld};
+ghost use Rattle.cf_session.specs.Sessions.{nothing_held, state_of, IsHeld, IsOneWith};
 
 use crate::bindings::Bindings;
 use cf_names::NoMemory;
@@ -59,8 +59,8 @@ impl Session {
         let _ = &self.alloc;
     }
 
-    /// The function of a variable or of a named function; None exactly where the name is neither.
-    pub fn func_of(&self, name: &[u8]) -> Option<Func>
+    /// The function of a variable or of a named function.
+    fn look_up(&self, name: &[u8]) -> Option<Func>
         ensures owned { IfSome result (λ f. OwnsFunction self.now.pkg f) }
         ensures means { IfSome result (λ f. named (state_of self.now) name.now ≡ Some (meaning self.now.pkg f)) }
         ensures none { IsNone result ↔ IsNone (named (state_of self.now) name.now) }
@@ -70,5 +70,18 @@ impl Session {
             Some(f) => Some(f),
             None => self.functions.find(name),
         }
+    }
+
+    /// The function of a variable or of a named function; None exactly where the name is neither. Two
+    /// names have one `Func` exactly where they stand for equal functions.
+    pub fn func_of(&self, name: &[u8]) -> Option<Func>
+        ensures owned { IfSome result (λ f. OwnsFunction self.now.pkg f) }
+        ensures means { IfSome result (λ f. named (state_of self.now) name.now ≡ Some (meaning self.now.pkg f)) }
+        ensures one { IfSome result (IsOneWith self.now name.now) }
+        ensures none { IsNone result ↔ IsNone (named (state_of self.now) name.now) }
+    {
+        let f = self.look_up(name)?;
+        self.pkg.law(f);
+        Some(f)
     }
 }

@@ -14,9 +14,9 @@ ghost use Rattle.cf_session.specs.Statements.{bytes_of, IsFaultOfStep, ArePositi
 use crate::bindings::Bindings;
 use crate::faults::{Refusal, StepFault};
 use crate::session::Session;
-use crate::walk::{is_below, variables};
+use crate::walk::is_below;
 use cf_names::{NameBook, NoMemory};
-use cf_pkg::{Func, Pkg};
+use cf_pkg::{Func, Pkg, variables};
 use std::alloc::Global;
 
 /// Whether some name stands twice.

@@ -11,6 +11,7 @@ ghost use Rattle.cf_session.specs.Walks.{HasLevel, HaveLevel, walk_call, agrees}
 
 use crate::faults::Refusal;
 use crate::session::Session;
+use cf_pkg::variables;
 use cf_script::Expr;
 
 impl Session {
@@ -94,14 +95,6 @@ fn walk_const(level: i128) -> Result<u8, Refusal>
     } else {
         Err(Refusal::BadLevel)
     }
-}
-
-/// How many variables a level has.
-pub(crate) fn variables(level: u8) -> u8
-    requires { level ≤ 7 }
-    ensures { result ≡ 2 ^ level }
-{
-    1 << level
 }
 
 /// Whether a number is one of those from 0 on that are less than n.

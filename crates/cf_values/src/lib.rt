@@ -1,9 +1,9 @@
 // Lists of function values, each kept once and named by a number.
 #![tactic(auto)]
 
-ghost use Rattle.std.specs.Prelude.{◌≡◌, ◌<◌, ◌↔◌, [], length, slice_get, Some, IsTrue, IfOk, OnErr, MatchOption};
+ghost use Rattle.std.specs.Prelude.{◌≡◌, ◌<◌, ◌↔◌, [], All, length, slice_get, Some, IsTrue, IfOk, OnErr, MatchOption};
 ghost use Rattle.cf_model.specs.Renumbering.{AllDiffer, IsNew};
-ghost use Rattle.cf_values.specs.Books.{IsInterned, Lengthens};
+ghost use Rattle.cf_values.specs.Books.{IsInterned, IsValueList, Lengthens};
 
 use std::alloc::{AllocError, Global};
 use std::marker::Model;
@@ -88,6 +88,7 @@ impl ValueBook {
         ensures some { 0 < length result.now }
         ensures differ { AllDiffer result.now }
         ensures once { AllDiffer self.now }
+        ensures each { All IsValueList self.now }
     {
         self.lists[v.at as usize].as_slice()
     }

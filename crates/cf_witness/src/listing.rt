@@ -9,9 +9,9 @@ ghost use Rattle.cf_pkg.specs.Packages.{OwnsFunction, meaning};
 ghost use Rattle.cf_witness.specs.Nexts.{leads};
 ghost use Rattle.cf_witness.specs.Witnesses.{assignments_of};
 
-use crate::next::{next_place, variables};
+use crate::next::next_place;
 use cf_bits::Bits;
-use cf_pkg::{Func, Pkg};
+use cf_pkg::{Func, Pkg, level_within, variables};
 use cf_table::{Gid, Table};
 use cf_tuple::NoMemory;
 use std::alloc::Global;
@@ -43,16 +43,6 @@ fn marks_of_value(alloc: Global, values: &[i128], v: i128) -> Result<Vec<bool>, 
         marks.push(value == v)?;
     }
     Ok(marks)
-}
-
-/// The level of a grouping.
-fn level_within(table: &Table, g: Gid) -> u8
-    requires { Owns table.now g }
-    ensures level { result ≡ g.level }
-    ensures within { result ≤ 7 }
-{
-    table.law();
-    g.level
 }
 
 /// The first assignments that lead to a marked exit, at most so many.

@@ -6,6 +6,7 @@ ghost use Rattle.cf_model.specs.Diagrams.{connection_at, pattern, row};
 ghost use Rattle.cf_table.specs.Groupings.{Owns, node_of, pattern_of};
 ghost use Rattle.cf_witness.specs.Nexts.{is_marked, has_marked, LacksMarked, IsNext};
 
+use cf_pkg::variables;
 use cf_table::{DONT_CARE, Gid, Table};
 use cf_tuple::NoMemory;
 use std::alloc::Global;
@@ -56,14 +57,6 @@ fn marks_of_middles(
         middles.push(has_marked(marks, table.tuple(b.ret)))?;
     }
     Ok(middles)
-}
-
-/// How many variables a level has.
-pub(crate) fn variables(level: u8) -> u8
-    requires { level ≤ 7 }
-    ensures { result ≡ 2 ^ level }
-{
-    1u8 << level
 }
 
 /// How many assignments a level has.

@@ -1,8 +1,9 @@
 use Rattle.std.proofs.Common.{None, ◌≡◌, sym, ◌∙◌, ap}
 use Rattle.cf_session.specs.Bindings.{bound_to}
-use Rattle.cf_session.proofs.NamedFacts.{StandsFor, named-variable, some-named, stands-owned, stands-means, stands-none}
-use Rattle.cf_session.proofs.session.Session.func_of.Goals as goal
-use Rattle.cf_session.proofs.session.Session.func_of.Goals.{In-Some, After-find-in-None}
+use Rattle.cf_session.specs.Sessions.{StandsFor}
+use Rattle.cf_session.proofs.NamedFacts.{named-variable, some-named, stands-owned, stands-means, stands-none}
+use Rattle.cf_session.proofs.session.Session.look_up.Goals as goal
+use Rattle.cf_session.proofs.session.Session.look_up.Goals.{In-Some, After-find-in-None}
 
 variable : (c : In-Some) → StandsFor c.args.self.now c.args.name.now c.in-Some.f
 variable c =
