@@ -9,6 +9,7 @@ ghost use Rattle.std.specs.Prelude.{◌≡◌, ◌≢◌, ℕ, ◌+◌, ◌≤�
 ghost use Rattle.cf_io.specs.Causes.{Rose};
 ghost use Rattle.cf_reference.specs.States.{initial};
 ghost use Rattle.cf_reference.specs.Scripts.{ref, is_run, Ending};
+ghost use Rattle.cf_pkg.specs.Packages.{Keeps};
 ghost use Rattle.cf_session.specs.Sessions.{state_of};
 ghost use Rattle.cf_top.specs.Ends.{Meets, Completes};
 
@@ -67,6 +68,7 @@ pub fn run<S: Source, F: Files, K: Sink>(
     ensures told { (S.tells script.new ≡ S.tells script.old) × (K.tells out.new ≡ K.tells out.old) }
     ensures later { (S.faults script.old ≤ S.faults script.new) × (K.faults out.old ≤ K.faults out.new) }
     ensures files { files.new ≡ files.old }
+    ensures kept { Keeps session.old.pkg session.new.pkg }
 {
     if is_run(words) {
         run_script(alloc, session, script, files, out)

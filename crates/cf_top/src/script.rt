@@ -7,6 +7,7 @@ ghost use Rattle.cf_reference.specs.States.{State};
 ghost use Rattle.cf_reference.specs.Carrying.{Refuses, step};
 ghost use Rattle.cf_reference.specs.Scripts.{step_parsed, run_lines};
 ghost use Rattle.cf_script.specs.Views.{statement_of};
+ghost use Rattle.cf_pkg.specs.Packages.{Keeps};
 ghost use Rattle.cf_session.specs.Sessions.{state_of};
 ghost use Rattle.cf_top.specs.Views.{reason_view};
 ghost use Rattle.cf_top.specs.Ends.{Meets};
@@ -47,6 +48,7 @@ pub(crate) fn run_script<S: Source, F: Files, K: Sink>(
     ensures write { result ≡ Status.WriteFault → Rose (K.faults out.old) (K.faults out.new) }
     ensures file { result ≢ Status.FileFault }
     ensures files { files.new ≡ files.old }
+    ensures kept { Keeps session.old.pkg session.new.pkg }
 {
     let Ok(mut lines) = Lines::new(alloc) else {
         return Status::NoMemory;
@@ -76,6 +78,7 @@ fn run_lines<S: Source, F: Files, K: Sink>(
     ensures write { result ≡ Status.WriteFault → Rose (K.faults out.old) (K.faults out.new) }
     ensures file { result ≢ Status.FileFault }
     ensures files { files.new ≡ files.old }
+    ensures kept { Keeps session.old.pkg session.new.pkg }
 {
     let mut number = 0u64;
     loop {
@@ -113,6 +116,7 @@ fn carry_line<F: Files, K: Sink>(
     ensures later { K.faults out.old ≤ K.faults out.new }
     ensures write { result ≡ Carried.Stops Status.WriteFault → Rose (K.faults out.old) (K.faults out.new) }
     ensures files { files.new ≡ files.old }
+    ensures kept { Keeps session.old.pkg session.new.pkg }
 {
     match parse_line(alloc, line) {
         Ok(statement) => carry_statement(session, number, &statement, files, out),
@@ -140,6 +144,7 @@ fn carry_statement<F: Files, K: Sink>(
     ensures later { K.faults out.old ≤ K.faults out.new }
     ensures write { result ≡ Carried.Stops Status.WriteFault → Rose (K.faults out.old) (K.faults out.new) }
     ensures files { files.new ≡ files.old }
+    ensures kept { Keeps session.old.pkg session.new.pkg }
 {
     match session.step(files, statement, out) {
         Stepped::Written => Carried::Goes,

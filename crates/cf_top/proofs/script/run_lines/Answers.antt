@@ -5,6 +5,7 @@ use Rattle.cf_reference.specs.Reasons as reason
 use Rattle.cf_reference.specs.Parsing.{parse}
 use Rattle.cf_reference.specs.Carrying.{Refuses}
 use Rattle.cf_reference.specs.Scripts.{step_parsed}
+use Rattle.cf_pkg.proofs.Valued.{Keeps-trans}
 use Rattle.cf_session.specs.Sessions.{state_of}
 use Rattle.cf_top.specs.Carrying.{Carries}
 use Rattle.cf_top.proofs.Turns.{line_stops, line_turns, long_stops, end_stops, line_answered, line_moved, end_answered, end_moved, long_answered, long_moved, script_long_answered, script_long_moved, taken_since}
@@ -76,6 +77,7 @@ loop-line-preserved g c =
       script_later = omega (arith, kept.script_later, c.next_line.ensures.later);
       out_later = omega (arith, kept.out_later, c.carry_line.ensures.later);
       files = c.carry_line.ensures.files ∙ kept.files;
+      kept = Keeps-trans _ _ _ kept.kept c.carry_line.ensures.kept;
       within = next.0.within;
       number = omega (arith, kept.number, moved.0);
       taken = taken_since (g.S.Source.taken c.args.script.now) (g.S.Source.taken c.loop-line.script) (g.S.Source.taken c.next_line.new.source) (taken_by c.loop-line.lines) (taken_by c.next_line.follows.lender-at-none) kept.taken next.0.taken;

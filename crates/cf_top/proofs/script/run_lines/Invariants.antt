@@ -2,6 +2,7 @@ use Rattle.std.proofs.Common.{◌≡◌, ◌≤◌, ◌+◌, ◌-◌, [], ◌++�
 use Rattle.cf_io.specs.Held.{taken_by}
 use Rattle.cf_reference.specs.Lines.{lines}
 use Rattle.cf_reference.specs.Scripts.{run_lines}
+use Rattle.cf_pkg.specs.Packages.{Keeps}
 use Rattle.cf_session.specs.Sessions.{state_of}
 use Rattle.cf_top.proofs.Following.{Follows}
 use Rattle.cf_top.proofs.script.run_lines.Given as goal
@@ -14,6 +15,7 @@ invariant-loop-line g l = record {
   script_later : g.S.Source.faults l.fn.script ≤ g.S.Source.faults l.script;
   out_later : g.K.Sink.faults l.fn.out ≤ g.K.Sink.faults l.out;
   files : l.files ≡ l.fn.files;
+  kept : Keeps l.fn.session.pkg l.session.pkg;
   within : l.lines.handed ≤ 1073741824;
   number : l.number ≤ l.lines.handed;
   taken : g.S.Source.taken l.fn.script + taken_by l.lines ≡ g.S.Source.taken l.script;
