@@ -1,5 +1,6 @@
 #!/usr/bin/env bash
-# Runs each script of examples/ on the built program, and compares what it writes and its status.
+# Runs each script of examples/, tests/edges/ and tests/refusals/ on the built program, and compares what it writes and
+# its status.
 # NAME.cfl is the script, NAME.out what has to be written, and NAME.status the status where it isn't 0.
 set -u
 cd "$(dirname "${BASH_SOURCE[0]}")/.." || exit 1
@@ -7,7 +8,7 @@ passed=0
 failed=0
 answer=$(mktemp)
 trap 'rm -f "$answer"' EXIT
-for script in examples/*.cfl; do
+for script in examples/*.cfl tests/edges/*.cfl tests/refusals/*.cfl; do
     name=${script%.cfl}
     wanted=0
     if [ -f "$name.status" ]; then wanted=$(cat "$name.status"); fi

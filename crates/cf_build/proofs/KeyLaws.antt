@@ -77,3 +77,22 @@ keyed_turn {A = A} is_label key apart all ranks labels after keys now x at value
     by true k n (inr o) = subst (λ (v : List A). Keyed is_label key (all ++ x ∷ []) (ranks ++ at ∷ []) v now) (sym o.1) k
     by false k n (inl o) = subst (λ (v : List A). Keyed is_label key (all ++ x ∷ []) (ranks ++ at ∷ []) v now) (sym o.1) k
     by false k n (inr o) = absurd (false≢true (sym o.0 ∙ n))
+
+-- what an equal test finds, as the hashed search answers it
+pub found_so : (keys : List (List ℕ)) (x : List ℕ) (at : ℕ) → slice_get keys at ≡ Some x → (key : List ℕ) × (slice_get keys at ≡ Some key) × (same_ranks x key ≡ true)
+found_so keys x at h = (x, h, (ranks_decide x x).1 refl)
+
+pub any_known : (x : List ℕ) (keys : List (List ℕ)) (at : ℕ) → slice_get keys at ≡ Some x → list_any (same_ranks x) keys ≡ true
+any_known x keys at h = by (list_any (same_ranks x) keys) refl
+  where
+    by : (b : Bool) → list_any (same_ranks x) keys ≡ b → list_any (same_ranks x) keys ≡ true
+    by true e = e
+    by false e = absurd (unknown x keys e at h)
+
+pub any_new : (x : List ℕ) (keys : List (List ℕ)) → IsNew keys x → list_any (same_ranks x) keys ≡ false
+any_new x [] new = refl
+any_new x (key ∷ keys) new = by (same_ranks x key) refl (any_new x keys (λ i h. new (suc i) h))
+  where
+    by : (b : Bool) → same_ranks x key ≡ b → list_any (same_ranks x) keys ≡ false → (b || list_any (same_ranks x) keys) ≡ false
+    by true e rest = absurd (new 0 (ap Some (sym ((ranks_decide x key).0 e))))
+    by false e rest = rest

@@ -1,6 +1,6 @@
 use Rattle.std.proofs.Common.{◌≡◌, ℕ, zero, suc, ◌<◌, ◌≤◌, ◌+◌, List, [], ◌∷◌, ◌++◌, map, refl, sym, ◌∙◌, ap, subst, length, take, get_or, arith, inl, inr}
 use Rattle.std.proofs.lemmas.Bool.{cases_lt}
-use Rattle.std.proofs.lemmas.List.{length-map, get_or-map, get_or_append_left, get_or_push, length_push, take_more, map_push}
+use Rattle.std.proofs.lemmas.List.{get_or_append_left, get_or_push, length_push, take_more, map_push}
 use Rattle.std.proofs.lemmas.List.Elements.{All-push}
 use Rattle.std.specs.List.{All}
 use Rattle.std.specs.declared.vec.Vec.{Vec}
@@ -11,7 +11,7 @@ use Rattle.cf_tuple.specs.Books.{Lengthens}
 use Rattle.cf_tuple.proofs.BookLaws.{Lengthens-trans}
 use Rattle.cf_table.specs.declared.Gid.{Gid}
 use Rattle.cf_table.specs.declared.BConn.{BConn}
-use Rattle.cf_table.specs.Groupings.{Groupings, connection_of}
+use Rattle.cf_table.specs.Groupings.{Groupings}
 use Rattle.cf_build.specs.Joining.{row_connection, classed_connection, IsThin, blank}
 use Rattle.cf_build.specs.Parts.{HasThinned, AddsParts}
 use Rattle.cf_build.proofs.Turns.{IsThin-kept}
@@ -36,25 +36,22 @@ Under-at k (x ∷ xs) u zero d h = u.0
 Under-at k (x ∷ xs) u (suc m) d h = Under-at k xs u.1 m d (omega (arith, h))
 
 -- each label of a connection is an exit
-pub within : (t : Groupings) (k i : ℕ) → 0 < k → (conns : List BConn) → map (connection_of t.tuples) conns ≡ (node t.levels k i).connections → (j : ℕ) (x : BConn) → j < length conns
-    → (ret : List ℕ) → ret ≡ get_or t.tuples (get_or conns j x).ret.at [] → (n : ℕ) → n ≡ exits t.levels k i → (m d : ℕ) → m < length ret → get_or ret m d < n
-within t zero i pos conns shown j x lj ret re n ne m d lm = absurd (omega (arith, pos))
-within t (suc l) i pos conns shown j x lj ret re n ne m d lm =
+pub within : (t : Groupings) (k i : ℕ) → 0 < k → (j : ℕ) → j < length (node t.levels k i).connections
+    → (ret : List ℕ) → ret ≡ (connection_at (node t.levels k i).connections j).returns → (n : ℕ) → n ≡ exits t.levels k i → (m d : ℕ) → m < length ret → get_or ret m d < n
+within t zero i pos j lj ret re n ne m d lm = absurd (omega (arith, pos))
+within t (suc l) i pos j lj ret re n ne m d lm =
     let bs = (node t.levels (suc l) i).connections in
     let all : Under n (all_returns bs) = Under-width 0 n (all_returns bs) (omega (arith, ne)) in
-    let at : connection_at bs j ≡ connection_of t.tuples (get_or conns j x) = ap (λ (v : List Connection). connection_at v j) (sym shown) ∙ get_or-map (connection_of t.tuples) conns j x no_connection lj in
-    let lb : j < length bs = omega (arith, lj, ap length shown, length-map conns (connection_of t.tuples)) in
-    let here : Under n ret = subst (λ (v : List ℕ). Under n v) (ap (λ (c : Connection). c.returns) at ∙ sym re) (returned_under n bs all j lb) in
+    let here : Under n ret = subst (λ (v : List ℕ). Under n v) (sym re) (returned_under n bs all j lj) in
     Under-at n ret here m d lm
 
-pub rows_more : {Z : Type 0} (f : BConn → Connection) (cs : List ℕ) (rows after : List (Gid × Vec ℕ Z)) (r : Gid × Vec ℕ Z) (conns : List BConn) (i : ℕ) (x : BConn)
-    → map row_connection rows ≡ map (classed_connection cs) (map f (take i conns)) → after ≡ rows ++ r ∷ [] → row_connection r ≡ classed_connection cs (f (get_or conns i x)) → i < length conns
-    → map row_connection after ≡ map (classed_connection cs) (map f (take (i + 1) conns))
-rows_more f cs rows after r conns i x h e q l =
-    ap (λ (v : List _). map row_connection v) e ∙ map_push row_connection rows r ∙ ap (λ (v : List Connection). v ++ row_connection r ∷ []) h ∙ ap (λ (c : Connection). map (classed_connection cs) (map f (take i conns)) ++ c ∷ []) q
-    ∙ sym (map_push (classed_connection cs) (map f (take i conns)) (f (get_or conns i x)))
-    ∙ ap (λ (v : List Connection). map (classed_connection cs) v) (sym (map_push f (take i conns) (get_or conns i x)))
-    ∙ ap (λ (v : List BConn). map (classed_connection cs) (map f v)) (sym (take_more conns i x l))
+pub rows_more : {Z : Type 0} (cs : List ℕ) (rows after : List (Gid × Vec ℕ Z)) (r : Gid × Vec ℕ Z) (ns : List Connection) (i : ℕ)
+    → map row_connection rows ≡ map (classed_connection cs) (take i ns) → after ≡ rows ++ r ∷ [] → row_connection r ≡ classed_connection cs (connection_at ns i) → i < length ns
+    → map row_connection after ≡ map (classed_connection cs) (take (i + 1) ns)
+rows_more cs rows after r ns i h e q l =
+    ap (λ (v : List _). map row_connection v) e ∙ map_push row_connection rows r ∙ ap (λ (v : List Connection). v ++ row_connection r ∷ []) h ∙ ap (λ (c : Connection). map (classed_connection cs) (take i ns) ++ c ∷ []) q
+    ∙ sym (map_push (classed_connection cs) (take i ns) (connection_at ns i))
+    ∙ ap (λ (v : List Connection). map (classed_connection cs) v) (sym (take_more ns i no_connection l))
 
 length_take : {A : Type 0} (xs : List A) (i : ℕ) → i ≤ length xs → length (take i xs) ≡ i
 length_take xs zero h = refl
@@ -63,8 +60,8 @@ length_take (x ∷ xs) (suc i) h = ap suc (length_take xs i (omega (arith, h)))
 
 -- one more row
 pub going : (t s u : Groupings) (l : ℕ) (ns : List Connection) (i : ℕ) (bs after : List BConn) (b : BConn) → IsGood t.levels → HasThinned t s l ns i bs → i < length ns → (connection_at ns i).callee < count t.levels l
-    → IsThin u l (row (pattern s.levels l) (connection_at ns i)) (connection_at ns i).returns b → AddsParts s.levels u.levels l b.«to».at → IsGood u.levels → Extends s.levels u.levels → Lengthens s.tuples u.tuples → after ≡ bs ++ b ∷ [] → HasThinned t u l ns (i + 1) after
-going t s u l ns i bs after b gt g lt own thin add gu x y e =
+    → IsThin u l (row (pattern s.levels l) (connection_at ns i)) (connection_at ns i).returns b → AddsParts s.levels u.levels l b.«to».at → IsGood u.levels → Extends s.levels u.levels → Lengthens s.tuples u.tuples → u.products ≡ s.products → after ≡ bs ++ b ∷ [] → HasThinned t u l ns (i + 1) after
+going t s u l ns i bs after b gt g lt own thin add gu x y same e =
     let n = connection_at ns i in
     let more : take (i + 1) ns ≡ take i ns ++ n ∷ [] = take_more ns i no_connection lt in
     let li : length (take i ns) ≡ i = length_take ns i (omega (arith, lt)) in
@@ -74,6 +71,7 @@ going t s u l ns i bs after b gt g lt own thin add gu x y e =
       good = gu;
       extends = Extends-trans t.levels s.levels u.levels g.extends x;
       longer = Lengthens-trans t.tuples s.tuples u.tuples g.longer y;
+      products = same ∙ g.products;
       thin = record {
         long = ap length e ∙ length_push bs b ∙ (let q : length bs + 1 ≡ length (take i ns ++ n ∷ []) = omega (arith, lb, li, length_push (take i ns) n) in q) ∙ sym (ap length more);
         each = λ j lj. (let k : j < i + 1 = omega (arith, lj, ap length more, length_push (take i ns) n, li) in

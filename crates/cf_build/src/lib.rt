@@ -32,6 +32,7 @@ pub fn reduce(alloc: Global, table: &mut Table, g: Gid, classes: &[u64]) -> Resu
     ensures kept { Extends table.old.levels table.new.levels }
     ensures patterns { KeepsPatterns table.old.levels table.new.levels }
     ensures tuples { Lengthens table.old.tuples table.new.tuples }
+    ensures products { table.new.products ≡ table.old.products }
 {
     table.law();
     let (ranks, _) = canon_of(alloc, classes)?;
@@ -59,6 +60,7 @@ pub fn assemble<T: Label>(
     ensures kept { Extends table.old.levels table.new.levels }
     ensures patterns { KeepsPatterns table.old.levels table.new.levels }
     ensures tuples { Lengthens table.old.tuples table.new.tuples }
+    ensures products { table.new.products ≡ table.old.products }
 {
     table.law();
     let all = all_labels(alloc, rows)?;
@@ -66,69 +68,4 @@ pub fn assemble<T: Label>(
     let numbered = numbered_rows(alloc, rows, ranks.as_slice())?;
     let g = join(alloc, table, a, numbered.as_slice())?;
     Ok((g, different))
-}
-
-#[cfg(test)]
-mod tests {
-    use super::*;
-    use cf_table::{DONT_CARE, FORK};
-    use std::test::Fail;
-
-    /// The canon of the labels at 00, 01, 10 and 11.
-    fn of_four<T: Label>(
-        alloc: Global,
-        table: &mut Table,
-        labels: &[T],
-    ) -> Result<(Gid, Vec<T>), NoMemory>
-        requires good { IsGood table.old.levels }
-        requires four { length labels.now ≡ 4 }
-        ensures { IsGood table.new.levels }
-    {
-        let low = Vec::from_slice(alloc, &labels[..2])?;
-        let high = Vec::from_slice(alloc, &labels[2..])?;
-        assemble(alloc, table, FORK, &[(FORK, low), (FORK, high)])
-    }
-
-    #[test]
-    fn equal_rows_and_labels(rt: HostRuntime) -> Result<(), Fail> {
-        let alloc = rt.alloc();
-        let mut table = Table::new(alloc)?;
-        let (g, labels) = of_four(alloc, &mut table, &[5_u64, 5, 7, 5])?;
-        assert_eq!(rt; labels.as_slice(), [5, 7].as_slice());
-        assert!(rt; table.owns(g) && g.level == 1);
-        assert_eq!(rt; table.a_callee(g), FORK);
-        let conns = table.b_connections(g);
-        assert_eq!(rt; conns.len(), 2);
-        assert_eq!(rt; conns[0].to, DONT_CARE);
-        assert_eq!(rt; table.tuple(conns[0].ret), [0].as_slice());
-        assert_eq!(rt; conns[1].to, FORK);
-        assert_eq!(rt; table.tuple(conns[1].ret), [1, 0].as_slice());
-        Ok(())
-    }
-
-    #[test]
-    fn classes(rt: HostRuntime) -> Result<(), Fail> {
-        let alloc = rt.alloc();
-        let mut table = Table::new(alloc)?;
-        let (third, _) = of_four(alloc, &mut table, &[5_u64, 5, 7, 5])?;
-        let pairs = [(0_u64, 0_u64), (0, 1), (1, 0), (1, 1)];
-        let (whole, different) = of_four(alloc, &mut table, &pairs)?;
-        assert_eq!(rt; different.as_slice(), pairs.as_slice());
-        assert!(rt; table.owns(whole) && table.exits(whole) == 4);
-        assert_eq!(rt; reduce(alloc, &mut table, whole, &[4, 4, 9, 4])?, third);
-        Ok(())
-    }
-
-    #[test]
-    fn labels_of_each_type(rt: HostRuntime) -> Result<(), Fail> {
-        let alloc = rt.alloc();
-        let mut table = Table::new(alloc)?;
-        let (g, values) = of_four(alloc, &mut table, &[1_i128, 1, -1, 1])?;
-        assert_eq!(rt; values.as_slice(), [1, -1].as_slice());
-        let triples = [(0_u64, 0_u64, 0_u64), (0, 0, 0), (0, 0, 1), (0, 0, 0)];
-        let (h, different) = of_four(alloc, &mut table, &triples)?;
-        assert_eq!(rt; h, g);
-        assert_eq!(rt; different.as_slice(), [(0, 0, 0), (0, 0, 1)].as_slice());
-        Ok(())
-    }
 }

@@ -40,9 +40,8 @@ fn classed_rows(
     ensures levels { IfOk result (λ v. All (λ r. r.0.level + 1 ≡ g.level) v.items) }
 {
     let mut rows = Vec::new(alloc);
-    let conns = table.b_connections(g);
-    for i in 0..conns.len() {
-        let conn = conns[i];
+    for j in 0..table.middle_count(g) {
+        let conn = table.connection(g, j);
         let labels = classed_exits(alloc, table.tuple(conn.ret), classes)?;
         rows.push((conn.to, labels))?;
     }
@@ -80,6 +79,7 @@ pub(crate) fn merge(
     ensures good { IsGood table.new.levels }
     ensures extends { Extends table.old.levels table.new.levels }
     ensures longer { Lengthens table.old.tuples table.new.tuples }
+    ensures products { table.new.products ≡ table.old.products }
 {
     if is_rising(classes) {
         return Ok(g);
@@ -88,9 +88,14 @@ pub(crate) fn merge(
         // The two exits of FORK.
         return Ok(DONT_CARE);
     }
+    if let Some(known) = table.reduction_of(alloc, g, classes)? {
+        return Ok(known);
+    }
     let a = table.a_callee(g);
     let rows = classed_rows(alloc, table, g, classes)?;
-    join(alloc, table, a, rows.as_slice())
+    let merged = join(alloc, table, a, rows.as_slice())?;
+    table.keep_reduction(alloc, g, classes, merged)?;
+    Ok(merged)
 }
 
 /// The B-connection with a row's labels, which may repeat.
@@ -105,6 +110,7 @@ fn thin(alloc: Global, table: &mut Table, g: Gid, labels: &[u64]) -> Result<BCon
     ensures good { IsGood table.new.levels }
     ensures extends { Extends table.old.levels table.new.levels }
     ensures longer { Lengthens table.old.tuples table.new.tuples }
+    ensures products { table.new.products ≡ table.old.products }
 {
     let (ranks, different) = canon_of(alloc, labels)?;
     let to = merge(alloc, table, g, ranks.as_slice())?;
@@ -129,6 +135,7 @@ fn thin_rows(
     ensures good { IsGood table.new.levels }
     ensures extends { Extends table.old.levels table.new.levels }
     ensures longer { Lengthens table.old.tuples table.new.tuples }
+    ensures products { table.new.products ≡ table.old.products }
 {
     let mut conns = Vec::new(alloc);
     for i in 0..rows.len() {
@@ -157,6 +164,7 @@ pub(crate) fn join(
     ensures good { IsGood table.new.levels }
     ensures extends { Extends table.old.levels table.new.levels }
     ensures longer { Lengthens table.old.tuples table.new.tuples }
+    ensures products { table.new.products ≡ table.old.products }
 {
     let conns = thin_rows(alloc, table, a.level, rows)?;
     let (classes, bs) = canon_of(alloc, conns.as_slice())?;

@@ -22,6 +22,3 @@ pub use source::{Got, Source};
 
 /// Memory that was asked for isn't there.
 pub type NoMemory = std::alloc::AllocError;
-
-#[cfg(test)]
-mod tests;

@@ -229,36 +229,3 @@ impl Term {
         }
     }
 }
-
-#[cfg(test)]
-mod tests {
-    use super::*;
-
-    /// min(255, x + y)
-    fn clamp(alloc: Global) -> Result<Term, AllocError> {
-        let mut sum = Vec::new(alloc);
-        sum.push(Term::X)?;
-        sum.push(Term::Y)?;
-        let mut parts = Vec::new(alloc);
-        parts.push(Term::Num(255))?;
-        parts.push(Term::Fold(Word2::Plus, Items::from_vec(sum)))?;
-        Ok(Term::Fold(Word2::Min, Items::from_vec(parts)))
-    }
-
-    #[test]
-    fn terms_are_copied_and_valued(rt: HostRuntime) -> Result<(), AllocError> {
-        let term = clamp(rt.alloc())?;
-        let copy = term.copy(rt.alloc())?;
-        assert!(rt; copy.same(&term));
-        assert!(rt; !copy.same(&Term::X));
-        assert_eq!(rt; copy.arity(), 2);
-        for (x, y, want) in [
-            (200, 0, Some(200)),
-            (200, 100, Some(255)),
-            (i128::MAX, 1, None),
-        ] {
-            assert_eq!(rt; copy.eval(x, y, 0), want, "at {x}");
-        }
-        Ok(())
-    }
-}

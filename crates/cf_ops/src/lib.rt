@@ -2,8 +2,6 @@
 #![tactic(auto)]
 
 pub mod operations;
-#[cfg(test)]
-mod tests;
 pub mod words;
 
 pub use cf_model::terms::{Term, Word1, Word2};

@@ -3,3 +3,4 @@ pub mod Rows
 pub mod Pairs
 pub mod Triples
 pub mod Constants
+pub mod Bounds

@@ -1,18 +1,20 @@
 //! The recursion of the pair product: level by level, and over pairs of middle vertices.
 
-ghost use Rattle.std.specs.Prelude.{◌≡◌, ◌≢◌, ◌<◌, ◌≤◌, ◌-◌, length, map, All, IfOk, MatchOption, slice_index_or};
+ghost use Rattle.std.specs.Prelude.{◌≡◌, ◌≢◌, ◌<◌, ◌≤◌, ◌-◌, ◌*◌, suc, length, map, All, IfOk, MatchOption, slice_index_or};
 ghost use Rattle.std.specs.List.{zip, range_with_len};
+ghost use Rattle.std.specs.Result.{is_ok};
 ghost use Rattle.cf_model.specs.Patterns.{sub};
 ghost use Rattle.cf_model.specs.Diagrams.{pattern, row, IsGood, Extends};
 ghost use Rattle.cf_tuple.specs.Books.{Lengthens};
-ghost use Rattle.cf_table.specs.Groupings.{Owns, node_of, pattern_of, exits_of, connection_of};
+ghost use Rattle.cf_table.specs.Groupings.{Owns, node_of, pattern_of, patterns_of, exits_of, connection_of};
 ghost use Rattle.cf_table.specs.Goodness.{IsGoodOver};
 ghost use Rattle.cf_build.specs.Assembling.{HasCanon, AddsOnly};
+ghost use Rattle.cf_pair.specs.Charges.{pair_work, IsCharged};
 ghost use Rattle.cf_pair.specs.Products.{after_zero, before_zero, returned2, pair_word, Lists, ListEach, AddsOnlyIn};
 
 use cf_build::assemble;
 use cf_table::steps::Steps;
-use cf_table::{BConn, DONT_CARE, FORK, Gid, Table};
+use cf_table::{BConn, DONT_CARE, FORK, Gid, Product, Table};
 use cf_tuple::NoMemory;
 use std::alloc::Global;
 use std::sync::ledger::Ledger;
@@ -105,7 +107,15 @@ fn returned_pairs(
     Ok(returned)
 }
 
-/// The product of two groupings of one level.
+/// A copy of a product that the memo has.
+fn copied(alloc: Global, product: &Product) -> Result<(Gid, Vec<(u64, u64)>), NoMemory>
+    ensures { IfOk result (λ r. (r.0 ≡ product.now.head) × (r.1.items ≡ product.now.pairs.items)) }
+{
+    let pairs = Vec::from_slice(alloc, product.pairs.as_slice())?;
+    Ok((product.head, pairs))
+}
+
+/// The product of two groupings of one level, from the memo if it is there.
 #[cycle(pair)]
 pub(crate) fn pair_groupings<L: Ledger>(
     alloc: Global,
@@ -124,6 +134,8 @@ pub(crate) fn pair_groupings<L: Ledger>(
     ensures good { IsGood table.new.levels }
     ensures extends { Extends table.old.levels table.new.levels }
     ensures longer { Lengthens table.old.tuples table.new.tuples }
+    ensures charged { let k = patterns_of table.old.levels g h in
+        IsCharged table.old.products table.new.products k.0 k.1 (suc g.level) 0 steps.old steps.new (is_ok result) }
 {
     if g.level == 0 {
         return pair_bases(alloc, table, g, h);
@@ -131,6 +143,37 @@ pub(crate) fn pair_groupings<L: Ledger>(
     if let Some(product) = beside_constant(alloc, table, g, h)? {
         return Ok(product);
     }
+    if let Some(product) = table.product_of(g, h) {
+        return copied(alloc, product);
+    }
+    let (head, pairs) = pair_parts(alloc, table, g, h, steps)?;
+    table.keep_product(alloc, g, h, head, pairs.as_slice())?;
+    Ok((head, pairs))
+}
+
+/// The product of two groupings of one level above 0, from the products of what they are made of.
+#[cycle(pair)]
+fn pair_parts<L: Ledger>(
+    alloc: Global,
+    table: &mut Table,
+    g: Gid,
+    h: Gid,
+    steps: &mut Steps<L>,
+) -> Result<(Gid, Vec<(u64, u64)>), NoMemory>
+    requires above { 1 ≤ g.level }
+    requires level { g.level ≤ 7 }
+    requires levels { h.level ≡ g.level }
+    requires good { IsGood table.old.levels }
+    requires first { Owns table.old g }
+    requires second { Owns table.old h }
+    ensures paired { IfOk result (λ r. HasCanon table.new.levels r.0 g.level (zip (pattern_of table.old g) (pattern_of table.old h)) r.1.items) }
+    ensures added { IfOk result (λ r. AddsOnly table.old.levels table.new.levels (sub r.0.level (pattern_of table.new r.0))) }
+    ensures good { IsGood table.new.levels }
+    ensures extends { Extends table.old.levels table.new.levels }
+    ensures longer { Lengthens table.old.tuples table.new.tuples }
+    ensures charged { let k = patterns_of table.old.levels g h in
+        IsCharged table.old.products table.new.products k.0 k.1 g.level (2 * pair_work k) steps.old steps.new (is_ok result) }
+{
     let a = table.a_of(g, steps);
     let b = table.a_of(h, steps);
     let (callee, middles) = pair_groupings(alloc, table, a, b, steps)?;
@@ -156,6 +199,8 @@ fn pair_row<L: Ledger>(
     ensures good { IsGood table.new.levels }
     ensures extends { Extends table.old.levels table.new.levels }
     ensures longer { Lengthens table.old.tuples table.new.tuples }
+    ensures charged { let k = patterns_of table.old.levels b.«to» c.«to» in
+        IsCharged table.old.products table.new.products k.0 k.1 (suc b.«to».level) 0 steps.old steps.new (is_ok result) }
 {
     let (to, pairs) = pair_groupings(alloc, table, b.to, c.to, steps)?;
     let labels = returned_pairs(
@@ -189,6 +234,8 @@ fn pair_rows<L: Ledger>(
     ensures good { IsGood table.new.levels }
     ensures extends { Extends table.old.levels table.new.levels }
     ensures longer { Lengthens table.old.tuples table.new.tuples }
+    ensures charged { let k = patterns_of table.old.levels g h in
+        IsCharged table.old.products table.new.products k.0 k.1 g.level (2 * length middles.now) steps.old steps.new (is_ok result) }
 {
     let mut rows = Vec::new(alloc);
     for i in 0..middles.len() {

@@ -63,10 +63,6 @@ list_entered f above i heads keys now h e q =
     q ∙ ap (λ (v : List ℕ). distinct_on nat_eq v (f x)) e ∙ sym (distinct_on-append nat_eq [] (heads ++ before) (f x))
     ∙ ap (distinct nat_eq) (append_assoc heads before (f x) ∙ ap (λ (v : List ℕ). heads ++ v) (sym more))
 
--- the callees of a node, read off ids
-pub callees_read : (tuples : List (List ℕ)) (bs : List BConn) (conns : List Connection) → map (connection_of tuples) bs ≡ conns → map (λ b. b.«to».at) bs ≡ map (λ c. c.callee) conns
-callees_read tuples bs conns e = sym (map_map (λ c. c.callee) (connection_of tuples) bs) ∙ ap (map (λ (c : Connection). c.callee)) e
-
 -- What is reached at a level are its heads, and the callees of what is reached one level above.
 pub reached_below : (t : Levels) (heads : List Gid) (level up : ℕ) (above places : List ℕ) → up ≡ suc level → ListsReached t heads up above
     → places ≡ distinct nat_eq (places_at level heads ++ flat_map (λ at. callees (node t up at)) above) → ListsReached t heads level places

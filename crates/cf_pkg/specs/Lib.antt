@@ -6,4 +6,3 @@ pub mod Products
 pub mod Exits
 pub mod Jobs
 pub mod Sizes
-pub mod TestRecipes

@@ -5,8 +5,6 @@ mod basics;
 mod exits;
 mod jobs;
 mod least_assignment;
-#[cfg(test)]
-mod operation_tests;
 mod operations;
 mod reached;
 mod walk;
@@ -169,77 +167,5 @@ impl Pkg {
         self.law(f);
         self.law(g);
         f == g
-    }
-}
-
-#[cfg(test)]
-mod tests {
-    use super::*;
-    use std::marker::Brand;
-    use std::sync::ledger::Blank;
-    use std::test::Fail;
-
-    /// The values of a function of level 1 at 00, 01, 10 and 11.
-    fn values_of<L: Ledger>(pkg: &Pkg, f: Func, blank: Blank) -> [i128; 4]
-        requires owned { OwnsFunction pkg.now f }
-        requires level { f.head.level ≡ 1 }
-        requires name { blank.name ≡ L.name }
-        requires parts { blank.parts ≡ L.parts }
-        requires some { 0 < blank.parts }
-    {
-        let mut steps = Steps::<L>::open(blank);
-        [
-            pkg.eval(f, Bits::new(2, 0), &mut steps),
-            pkg.eval(f, Bits::new(2, 1), &mut steps),
-            pkg.eval(f, Bits::new(2, 2), &mut steps),
-            pkg.eval(f, Bits::new(2, 3), &mut steps),
-        ]
-    }
-
-    #[test]
-    fn constants_and_variables(rt: HostRuntime) -> Result<(), Fail> {
-        let mut pkg = Pkg::new(rt.alloc())?;
-        let seven = pkg.constant(1, -7)?;
-        let first = pkg.variable(1, 0)?;
-        let second = pkg.variable(1, 1)?;
-        let again = pkg.variable(1, 1)?;
-        assert!(rt; pkg.owns(seven) && pkg.owns(first) && pkg.owns(second) && pkg.owns(again));
-        assert_eq!(rt;
-            values_of::<Brand>(&pkg, seven, Blank::new(1)),
-            [-7, -7, -7, -7]
-        );
-        assert_eq!(rt;
-            values_of::<Brand>(&pkg, first, Blank::new(1)),
-            [0, 0, 1, 1]
-        );
-        assert_eq!(rt;
-            values_of::<Brand>(&pkg, second, Blank::new(1)),
-            [0, 1, 0, 1]
-        );
-        assert!(rt; pkg.same(second, again) && !pkg.same(first, second));
-        assert_eq!(rt; pkg.level_of(first), 1);
-        Ok(())
-    }
-
-    /// The number of the least assignment at which a function has its second value.
-    fn second_value_at<L: Ledger>(pkg: &Pkg, f: Func, blank: Blank) -> u128
-        requires owned { Owns pkg.now.groupings f.head }
-        requires exit { 1 < exits_of pkg.now.groupings f.head }
-        requires name { blank.name ≡ L.name }
-        requires parts { blank.parts ≡ L.parts }
-        requires some { 0 < blank.parts }
-    {
-        let mut steps = Steps::<L>::open(blank);
-        least(pkg.table(), f.head, 1, &mut steps).number()
-    }
-
-    #[test]
-    fn least_assignments(rt: HostRuntime) -> Result<(), Fail> {
-        let mut pkg = Pkg::new(rt.alloc())?;
-        let second = pkg.variable(1, 1)?;
-        assert!(rt; pkg.table().owns(second.head));
-        assert!(rt; 1 < pkg.table().exits(second.head));
-        assert_eq!(rt; second_value_at::<Brand>(&pkg, second, Blank::new(1)), 1);
-        Ok(())
     }
 }

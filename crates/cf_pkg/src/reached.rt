@@ -35,8 +35,8 @@ fn insert_callees(places: &mut IndexSet<u64>, table: &Table, g: Gid) -> Result<(
     ensures { OnOk result (places.new.keys ≡ distinct_on nat_eq places.old.keys (callees (node_of table.now g))) }
 {
     places.insert(table.a_callee(g).at)?;
-    for b in table.b_connections(g) {
-        places.insert(b.to.at)?;
+    for j in 0..table.middle_count(g) {
+        places.insert(table.connection(g, j).to.at)?;
     }
     Ok(())
 }
@@ -133,35 +133,5 @@ impl Pkg {
             heads.push(f.head)?;
         }
         Ok(heads)
-    }
-}
-
-#[cfg(test)]
-mod tests {
-    use super::*;
-    use std::test::Fail;
-
-    #[test]
-    fn sizes_of_a_variable(rt: HostRuntime) -> Result<(), Fail> {
-        let mut pkg = Pkg::new(rt.alloc())?;
-        let first = pkg.variable(1, 0)?;
-        let size = pkg.sizes(first)?;
-        let known = Sizes {
-            per_level: [2, 1, 0, 0, 0, 0, 0, 0],
-            exits: 2,
-        };
-        assert_eq!(rt; size, known);
-        Ok(())
-    }
-
-    #[test]
-    fn sizes_of_functions_of_two_levels(rt: HostRuntime) -> Result<(), Fail> {
-        let mut pkg = Pkg::new(rt.alloc())?;
-        let second = pkg.variable(1, 1)?;
-        let first = pkg.variable(2, 0)?;
-        assert!(rt; pkg.owns(second) && pkg.owns(first));
-        let sizes = pkg.live_sizes(&[first, second, first])?;
-        assert_eq!(rt; sizes, [2, 3, 1, 0, 0, 0, 0, 0]);
-        Ok(())
     }
 }

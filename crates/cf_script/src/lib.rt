@@ -5,8 +5,6 @@ pub(crate) mod expressions;
 pub mod faults;
 pub(crate) mod numbers;
 pub mod statements;
-#[cfg(test)]
-mod tests;
 pub mod trees;
 pub(crate) mod words;
 

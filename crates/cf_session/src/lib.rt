@@ -4,14 +4,10 @@
 mod answers;
 mod bindings;
 mod build;
-#[cfg(test)]
-mod build_tests;
 pub mod faults;
 mod session;
 mod statements;
 mod step;
-#[cfg(test)]
-mod tests;
 mod walk;
 
 pub use faults::{Refusal, StepFault};

@@ -6,3 +6,6 @@ pub mod ConnectionTests
 pub mod Above
 pub mod Internable
 pub mod First
+pub mod Products
+pub mod Reductions
+mod Placed

@@ -75,3 +75,8 @@ callee_owned t g k l i j e h hj b q = subst (λ (x : Connection). x.callee < cou
 -- the exits of a grouping above level 0
 pub exits_above : (t : Levels) (k l i : ℕ) → l + 1 ≡ k → exits t k i ≡ width 0 (all_returns (node t k i).connections)
 exits_above t k l i e = subst (λ (m : ℕ). exits t m i ≡ width 0 (all_returns (node t m i).connections)) (sym (add-one l) ∙ e) refl
+
+-- what is known where there is no answer
+pub none_of : {A : Type 0} (o : Option A) (P : Type 0) (Q : A → Type 0) → ((x : A) → o ≡ Some x → ⊥) → MatchOption o P Q → P
+none_of None P Q f h = h
+none_of (Some x) P Q f h = absurd (f x refl)

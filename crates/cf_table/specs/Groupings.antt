@@ -1,18 +1,22 @@
-use Rattle.std.specs.Prelude.{◌≡◌, ◌≢◌, ℕ, ◌+◌, ◌<◌, ◌≤◌, List, [], ◌∷◌, length, map, slice_get, Some, slice_index_or as get_or, ◌⊎◌, All}
-use Rattle.cf_model.specs.Renumbering.{IsNew}
+use Rattle.std.specs.Prelude.{◌≡◌, ◌≢◌, ℕ, ◌<◌, ◌≤◌, List, [], ◌∷◌, length, map, slice_get, Some, slice_index_or as get_or, ◌⊎◌, All}
+use Rattle.std.specs.List.{zip}
+use Rattle.cf_model.specs.Renumbering.{IsNew, IsCanon}
+use Rattle.cf_model.specs.Patterns.{Pattern}
 use Rattle.cf_model.specs.Diagrams.{Levels, Connection, Node, no_node, connection_at, count, node, pattern, exits, with_node, IsGoodNode}
 use Rattle.cf_tuple.specs.declared.Tid.{Tid}
 use Rattle.cf_table.specs.declared.Gid.{Gid}
 use Rattle.cf_table.specs.declared.BConn.{BConn}
 
--- A table as contracts see it: the groupings, level by level, and the return tuples. An id's number is its place.
+-- A table as contracts see it: the groupings, level by level, the return tuples, and the pairs of patterns whose product
+-- it has kept, in the order in which they came. An id's number is its place.
 pub record Groupings : Type 0 where
   pub levels : Levels
   pub tuples : List (List ℕ)
+  pub products : List (Pattern × Pattern)
 
--- the two groupings of level 0, no other grouping, and no return tuple
+-- the two groupings of level 0, no other grouping, no return tuple and no product
 abbrev pub only_base : Groupings
-only_base = record { levels = (no_node ∷ no_node ∷ []) ∷ [] ∷ [] ∷ [] ∷ [] ∷ [] ∷ [] ∷ [] ∷ []; tuples = [] }
+only_base = record { levels = (no_node ∷ no_node ∷ []) ∷ [] ∷ [] ∷ [] ∷ [] ∷ [] ∷ [] ∷ [] ∷ []; tuples = []; products = [] }
 
 -- The table has the grouping.
 abbrev pub Owns : Groupings → Gid → Type 0
@@ -34,6 +38,28 @@ node_of t g = node t.levels g.level g.at
 abbrev pub pattern_of : Groupings → Gid → List ℕ
 pattern_of t g = pattern t.levels g.level g.at
 
+-- the patterns of two groupings, with their levels
+abbrev pub patterns_of : Levels → Gid → Gid → Pattern × Pattern
+patterns_of t g h = (record { level = g.level; ranks = pattern t g.level g.at }, record { level = h.level; ranks = pattern t h.level h.at })
+
+-- The two groupings are in the table, at one level, and so is the head, whose pattern and the pairs are the canon of
+-- the pairs of their exits.
+pub record IsProduct (t : Levels) (g h head : Gid) (pairs : List (ℕ × ℕ)) : Type 0 where
+  pub first : g.at < count t g.level
+  pub second : h.at < count t h.level
+  pub levels : h.level ≡ g.level
+  pub level : head.level ≡ g.level
+  pub there : head.at < count t head.level
+  pub canon : IsCanon (zip (pattern t g.level g.at) (pattern t h.level h.at)) (pattern t head.level head.at) pairs
+
+-- The two groupings are in the table, at one level, and the second has the first one's pattern with each exit replaced
+-- by its class.
+pub record IsReduction (t : Levels) (g : Gid) (classes : List ℕ) (h : Gid) : Type 0 where
+  pub owned : g.at < count t g.level
+  pub level : h.level ≡ g.level
+  pub there : h.at < count t h.level
+  pub is_it : pattern t h.level h.at ≡ map (λ exit. get_or classes exit 0) (pattern t g.level g.at)
+
 -- how many exits a grouping has
 abbrev pub exits_of : Groupings → Gid → ℕ
 exits_of t g = exits t.levels g.level g.at
@@ -50,10 +76,6 @@ node_with tuples a bs = record { a_callee = a; connections = map (connection_of 
 pub record IsConnectionOver (t : Groupings) (l : ℕ) (b : BConn) : Type 0 where
   pub level : b.«to».level ≡ l
   pub tuple : OwnsTuple t b.ret
-
--- A B-connection of a grouping of level l: its callee is one level below, and its return tuple is in the list.
-abbrev pub IsConnectionAt : List (List ℕ) → ℕ → BConn → Type 0
-IsConnectionAt tuples l b = (b.«to».level + 1 ≡ l) × (b.ret.at < length tuples)
 
 -- The node with this A-callee and these B-connections may be interned: there is a level above, the ids are the table's,
 -- and the node is good.

@@ -1,37 +1,94 @@
-use Rattle.std.specs.Prelude.{◌≡◌, ℕ, ◌<◌, List, [], ◌∷◌, ◌++◌, length, map, slice_set, slice_index_or as get_or, All}
+use Rattle.std.specs.Prelude.{◌≡◌, ℕ, ◌<◌, List, [], ◌∷◌, ◌++◌, length, map, slice_set, slice_index_or as get_or, slice_get, Some, All}
 use Rattle.cf_model.specs.Renumbering.{width, AllDiffer}
-use Rattle.cf_model.specs.Diagrams.{Node, all_returns, IsGood}
+use Rattle.cf_model.specs.Diagrams.{Levels, Connection, Node, no_node, all_returns, IsGood}
 use Rattle.cf_table.specs.declared.BConn.{BConn}
-use Rattle.cf_table.specs.declared.Grouping.{Grouping}
-use Rattle.cf_table.specs.Groupings.{Groupings, IsConnectionAt, node_with}
+use Rattle.cf_table.specs.declared.level.PackedConnection.{PackedConnection}
+use Rattle.cf_table.specs.declared.level.PackedNode.{PackedNode}
+use Rattle.cf_model.specs.Patterns.{Pattern}
+use Rattle.cf_table.specs.declared.Operands.{Operands}
+use Rattle.cf_table.specs.declared.Product.{Product}
+use Rattle.cf_table.specs.declared.Gid.{Gid}
+use Rattle.cf_table.specs.declared.Classed.{Classed}
+use Rattle.cf_table.specs.Groupings.{Groupings, IsProduct, IsReduction, patterns_of}
 
--- a grouping as it is kept, by its ids
-abbrev pub ids : Grouping → ℕ × List BConn
-ids k = (k.a_callee, k.b_connections.items)
+-- A grouping as it is kept: the place of its A-callee, its B-connections by their places, and the number of its exits.
+pub record Kept : Type 0 where
+  pub a_callee : ℕ
+  pub connections : List PackedConnection
+  pub exits : ℕ
+
+-- an entry of a level's map
+abbrev pub kept_of : PackedNode × ℕ → Kept
+kept_of e = record { a_callee = e.0.a_callee; connections = e.0.connections.items; exits = e.1 }
+
+-- what two groupings of a level are compared by
+abbrev pub ids : Kept → ℕ × List PackedConnection
+ids k = (k.a_callee, k.connections)
+
+abbrev pub ids_of : PackedNode → ℕ × List PackedConnection
+ids_of n = (n.a_callee, n.connections.items)
+
+-- a B-connection without its level, which is that of its grouping
+abbrev pub packed : BConn → PackedConnection
+packed b = record { callee = b.«to».at; returns = b.ret.at }
+
+-- the B-connection that two places name
+abbrev pub shown_connection : List (List ℕ) → PackedConnection → Connection
+shown_connection tuples p = record { callee = p.callee; returns = get_or tuples p.returns [] }
+
+-- the node that places name
+abbrev pub node_by : List (List ℕ) → ℕ → List PackedConnection → Node
+node_by tuples a ps = record { a_callee = a; connections = map (shown_connection tuples) ps }
 
 -- the node that a kept grouping shows
-abbrev pub shown_node : List (List ℕ) → Grouping → Node
-shown_node tuples k = node_with tuples k.a_callee k.b_connections.items
+abbrev pub shown_node : List (List ℕ) → Kept → Node
+shown_node tuples k = node_by tuples k.a_callee k.connections
 
-abbrev pub shown_level : List (List ℕ) → List Grouping → List Node
+abbrev pub shown_level : List (List ℕ) → List Kept → List Node
 shown_level tuples ks = map (shown_node tuples) ks
 
-abbrev pub shown : List (List Grouping) → List (List ℕ) → Groupings
-shown levels tuples = record { levels = map (shown_level tuples) levels; tuples = tuples }
+-- level 0, which isn't kept, and the levels above it
+abbrev pub shown_levels : List (List Kept) → List (List ℕ) → Levels
+shown_levels levels tuples = (no_node ∷ no_node ∷ []) ∷ map (shown_level tuples) levels
 
--- A grouping that is kept at level l: so are its B-connections, and the number of exits is that of its node. (At level
--- 0 it is 0, and not read.)
-pub record IsKept (tuples : List (List ℕ)) (l : ℕ) (k : Grouping) : Type 0 where
-  pub connections : All (IsConnectionAt tuples l) k.b_connections.items
+-- the pairs of patterns whose products are kept
+abbrev pub shown_products : Levels → List (Operands × Product) → List (Pattern × Pattern)
+shown_products t entries = map (λ e. patterns_of t e.0.left e.0.right) entries
+
+abbrev pub shown : List (List Kept) → List (List ℕ) → List (Operands × Product) → Groupings
+shown levels tuples entries = record { levels = shown_levels levels tuples; tuples = tuples; products = shown_products (shown_levels levels tuples) entries }
+
+-- The return tuple of a B-connection is in the list.
+abbrev pub IsPackedOver : List (List ℕ) → PackedConnection → Type 0
+IsPackedOver tuples p = p.returns < length tuples
+
+-- A grouping that is kept: so are its return tuples, and the number of exits is that of its node.
+pub record IsKept (tuples : List (List ℕ)) (k : Kept) : Type 0 where
+  pub connections : All (IsPackedOver tuples) k.connections
   pub counted : k.exits ≡ width 0 (all_returns (shown_node tuples k).connections)
 
--- What a table keeps: eight levels that show a good table, and no return tuple twice.
-pub record Holds (levels : List (List Grouping)) (tuples : List (List ℕ)) : Type 0 where
-  pub eight : length levels ≡ 8
-  pub good : IsGood (shown levels tuples).levels
-  pub kept : (l : ℕ) (d : List Grouping) → l < length levels → All (IsKept tuples l) (get_or levels l d)
+-- What a table keeps: the seven levels above level 0, which show a good table, and no return tuple twice.
+pub record Holds (levels : List (List Kept)) (tuples : List (List ℕ)) : Type 0 where
+  pub seven : length levels ≡ 7
+  pub good : IsGood (shown_levels levels tuples)
+  pub kept : (l : ℕ) (d : List Kept) → l < length levels → All (IsKept tuples) (get_or levels l d)
   pub differ : AllDiffer tuples
 
 -- One more grouping is kept, at the end of its level.
-abbrev pub IsAdded : List (List Grouping) → List (List Grouping) → ℕ → ℕ → List BConn → ℕ → Type 0
-IsAdded before now l a bs exits = (k : Grouping) × (ids k ≡ (a, bs)) × (k.exits ≡ exits) × (now ≡ slice_set before l (get_or before l [] ++ k ∷ []))
+abbrev pub IsAdded : List (List Kept) → List (List Kept) → ℕ → Kept → Type 0
+IsAdded before now l k = now ≡ slice_set before l (get_or before l [] ++ k ∷ [])
+
+-- What a table keeps of products: each is one, and no pair of patterns stands twice.
+pub record HoldsProducts (t : Levels) (entries : List (Operands × Product)) : Type 0 where
+  pub are : (i : ℕ) (e : Operands × Product) → slice_get entries i ≡ Some e → IsProduct t e.0.left e.0.right e.1.head e.1.pairs.items
+  pub differ : AllDiffer (shown_products t entries)
+
+-- Each reduction that a table keeps is one.
+abbrev pub HoldsReductions : Levels → List (Classed × Gid) → Type 0
+HoldsReductions t entries = (i : ℕ) (e : Classed × Gid) → slice_get entries i ≡ Some e → IsReduction t e.0.grouping e.0.classes.items e.1
+
+-- The whole of what a table keeps.
+pub record HoldsAll (levels : List (List Kept)) (tuples : List (List ℕ)) (entries : List (Operands × Product)) (classed : List (Classed × Gid)) : Type 0 where
+  pub groupings : Holds levels tuples
+  pub products : HoldsProducts (shown_levels levels tuples) entries
+  pub reductions : HoldsReductions (shown_levels levels tuples) classed

@@ -3,12 +3,13 @@
 
 mod goodness;
 pub mod laws;
+mod level;
 pub mod steps;
 
-ghost use Rattle.std.specs.Prelude.{◌≡◌, ◌<◌, ◌≤◌, ◌+◌, ◌↔◌, [], All, length, map, slice_get, Some, IsTrue, IfOk, OnErr, MatchOption};
+ghost use Rattle.std.specs.Prelude.{◌≡◌, ◌<◌, ◌≤◌, ◌+◌, ◌↔◌, [], ◌∷◌, ◌++◌, All, length, map, slice_get, slice_index_or, Some, IsTrue, IfOk, IfSome, OnOk, OnErr, MatchOption};
 ghost use Rattle.cf_model.specs.Renumbering.{AllDiffer, IsNew};
 ghost use Rattle.cf_model.specs.Diagrams.{connection_at, count, node, IsGood, Extends};
-ghost use Rattle.cf_tuple.specs.Books.{items_of, IsInterned as IsInternedTuple, Lengthens};
+ghost use Rattle.cf_tuple.specs.Books.{IsInterned as IsInternedTuple, Lengthens};
 ghost use Rattle.cf_table.specs.Groupings.{
   only_base,
   Owns,
@@ -16,9 +17,11 @@ ghost use Rattle.cf_table.specs.Groupings.{
   tuple_of,
   node_of,
   pattern_of,
+  patterns_of,
+  IsProduct,
+  IsReduction,
   exits_of,
   connection_of,
-  IsConnectionAt,
   node_with,
   IsConnectionOver,
   IsInternable,
@@ -27,9 +30,12 @@ ghost use Rattle.cf_table.specs.Groupings.{
   KeepsPatterns,
   IsFirstOf,
 };
-ghost use Rattle.cf_table.specs.Kept.{ids, shown_node, IsKept, IsAdded};
+ghost use Rattle.cf_table.specs.Kept.{ids, ids_of, kept_of, packed, shown_node, shown_levels, IsKept, IsAdded, Holds};
 
 use cf_tuple::{NoMemory, Tid, TupleBook};
+use indexmap::IndexMap;
+use level::{Level, PackedNode};
+use smallvec::SmallVec;
 use std::alloc::{AllocError, Global};
 use std::marker::Model;
 use std::sync::ledger::Ledger;
@@ -56,78 +62,72 @@ pub const DONT_CARE: Gid = Gid { level: 0, at: 0 };
 /// The grouping of level 0 with exit 0 for bit 0 and exit 1 for bit 1.
 pub const FORK: Gid = Gid { level: 0, at: 1 };
 
-/// A grouping as it is kept, with the number of its exits. (Those of level 0 are blank.)
-#[derive(Drop)]
-struct Grouping {
-    a_callee: u64,
-    b_connections: Vec<BConn>,
-    exits: u64,
+/// The groupings of a pair product.
+#[derive(Clone, Copy, Debug, PartialEq, Eq, Hash)]
+struct Operands {
+    left: Gid,
+    right: Gid,
 }
 
-/// The groupings of eight levels, and their return tuples. It is always good, and only grows.
+/// A pair product as it is kept: its grouping, and the different pairs of exits in order of first
+/// appearance.
+#[derive(Drop)]
+pub struct Product {
+    pub head: Gid,
+    pub pairs: Vec<(u64, u64)>,
+}
+
+/// A grouping and a class for each of its exits.
+#[derive(Debug, PartialEq, Eq, Hash, Drop)]
+struct Classed {
+    grouping: Gid,
+    classes: SmallVec<u64, 8>,
+}
+
+/// The groupings of eight levels, their return tuples, and memos of pair products and reductions. It is always
+/// good, and but for the memo it only grows.
 #[derive(Drop)]
 pub struct Table {
-    levels: [Vec<Grouping>; 8],
+    levels: [Level; 7],
     book: TupleBook,
+    products: IndexMap<Operands, Product>,
+    reductions: IndexMap<Classed, Gid>,
 }
 
 impl Model for Table {
-    ghost use Rattle.cf_tuple.specs.Books.{items_of};
     ghost use Rattle.cf_table.specs.Groupings.{Groupings};
-    ghost use Rattle.cf_table.specs.Kept.{shown, Holds};
+    ghost use Rattle.cf_table.specs.Kept.{shown, HoldsAll};
 
     ghost Value = { Groupings };
 
-    ghost view = { λ table. shown (items_of table.levels) table.book };
+    ghost view = { λ table. shown table.levels table.book table.products.entries };
 
-    ghost invariant = { λ table. Holds (items_of table.levels) table.book };
+    ghost invariant = { λ table. HoldsAll table.levels table.book table.products.entries table.reductions.entries };
 }
 
-fn same_connections(xs: &[BConn], ys: &[BConn]) -> bool
-    ensures { IsTrue result ↔ (xs.now ≡ ys.now) }
+fn add(levels: &mut [Level], at: usize, node: PackedNode, exits: u64) -> Result<(), NoMemory>
+    requires level { at < length levels.old }
+    requires new { IsNew (map ids (slice_index_or levels.old at [])) (ids_of node) }
+    ensures added { OnOk result (IsAdded levels.old levels.new at (kept_of (node, exits))) }
+    ensures same { OnErr result (levels.new ≡ levels.old) }
 {
-    xs == ys
+    levels[at].add(node, exits)
 }
 
-fn is_grouping(kept: &Grouping, a: u64, bs: &[BConn]) -> bool
-    ensures { IsTrue result ↔ (ids kept.now ≡ (a, bs.now)) }
+/// Seven levels without a grouping.
+fn no_groupings(alloc: Global) -> [Level; 7]
+    ensures holds { Holds result [] }
+    ensures base { shown_levels result [] ≡ only_base.levels }
 {
-    kept.a_callee == a && same_connections(kept.b_connections.as_slice(), bs)
-}
-
-fn find_grouping(groupings: &[Grouping], a: u64, bs: &[BConn]) -> Option<u64>
-    ensures { MatchOption result
-        (IsNew (map ids groupings.now) (a, bs.now))
-        (λ i. slice_get (map ids groupings.now) i ≡ Some (a, bs.now)) }
-{
-    for i in 0..groupings.len() {
-        let kept = &groupings[i];
-        if is_grouping(kept, a, bs) {
-            return Some(i as u64);
-        }
-    }
-    None
-}
-
-fn add(
-    levels: &mut [Vec<Grouping>],
-    level: usize,
-    a: u64,
-    bs: &[BConn],
-    exits: u64,
-) -> Result<(), NoMemory>
-    requires { level < length levels.old }
-    ensures added { IfOk result (λ _. IsAdded (items_of levels.old) (items_of levels.new) level a bs.now exits) }
-    ensures same { OnErr result (items_of levels.new ≡ items_of levels.old) }
-{
-    let alloc = *levels[level].allocator();
-    let b_connections = Vec::from_slice(alloc, bs)?;
-    levels[level].push(Grouping {
-        a_callee: a,
-        b_connections,
-        exits,
-    })?;
-    Ok(())
+    [
+        Level::new(alloc),
+        Level::new(alloc),
+        Level::new(alloc),
+        Level::new(alloc),
+        Level::new(alloc),
+        Level::new(alloc),
+        Level::new(alloc),
+    ]
 }
 
 impl Table {
@@ -136,29 +136,11 @@ impl Table {
         ensures base { IfOk result (λ t. t ≡ only_base) }
         ensures good { IfOk result (λ t. IsGood t.levels) }
     {
-        let mut base = Vec::new(alloc);
-        base.push(Grouping {
-            a_callee: 0,
-            b_connections: Vec::new(alloc),
-            exits: 0,
-        })?;
-        base.push(Grouping {
-            a_callee: 0,
-            b_connections: Vec::new(alloc),
-            exits: 0,
-        })?;
         Ok(Table {
-            levels: [
-                base,
-                Vec::new(alloc),
-                Vec::new(alloc),
-                Vec::new(alloc),
-                Vec::new(alloc),
-                Vec::new(alloc),
-                Vec::new(alloc),
-                Vec::new(alloc),
-            ],
+            levels: no_groupings(alloc),
             book: TupleBook::new(alloc),
+            products: IndexMap::new(alloc),
+            reductions: IndexMap::new(alloc),
         })
     }
 
@@ -167,6 +149,7 @@ impl Table {
         ensures good { IsGood self.now.levels }
         ensures differ { AllDiffer self.now.tuples }
         ensures eight { length self.now.levels ≡ 8 }
+        ensures products_differ { AllDiffer self.now.products }
     {
         let _ = &self.book;
     }
@@ -176,6 +159,7 @@ impl Table {
         ensures interned { IfOk result (λ r. IsInternedTuple self.old.tuples self.new.tuples list.now r.at) }
         ensures kept { Lengthens self.old.tuples self.new.tuples }
         ensures levels { self.new.levels ≡ self.old.levels }
+        ensures products { self.new.products ≡ self.old.products }
         ensures no_memory { OnErr result (self.new ≡ self.old) }
     {
         self.book.intern(list)
@@ -196,15 +180,20 @@ impl Table {
         self.book.owns(t)
     }
 
-    fn find(&self, level: u8, a: u64, bs: &[BConn]) -> Option<u64>
-        requires level { level < 8 }
-        requires connections { All (IsConnectionAt self.now.tuples level) bs.now }
-        ensures { let n = node_with self.now.tuples a bs.now in
-            MatchOption result
-            (LacksNode self.now.levels level n)
-            (λ i. (i < count self.now.levels level) × (node self.now.levels level i ≡ n)) }
+    /// What the grouping with this A-callee and these B-connections is found by, and its place if the table has it.
+    fn find(&self, a: Gid, bs: &[BConn]) -> Result<(PackedNode, Option<usize>), NoMemory>
+        requires level { a.level ≤ 6 }
+        requires connections { All (IsConnectionOver self.now a.level) bs.now }
+        ensures packed { IfOk result (λ r. ids_of r.0 ≡ (a.at, map packed bs.now)) }
+        ensures found { let n = node_with self.now.tuples a.at bs.now in
+            IfOk result (λ r. MatchOption r.1
+            (LacksNode self.now.levels (a.level + 1) n)
+            (λ i. (i < count self.now.levels (a.level + 1)) × (node self.now.levels (a.level + 1) i ≡ n))) }
     {
-        find_grouping(self.levels[level as usize].as_slice(), a, bs)
+        let level = &self.levels[a.level as usize];
+        let node = level.pack(a.at, bs)?;
+        let place = level.find(&node);
+        Ok((node, place))
     }
 
     /// Whether `intern` may be called with this A-callee and these B-connections.
@@ -225,16 +214,101 @@ impl Table {
         ensures kept { Extends self.old.levels self.new.levels }
         ensures patterns { KeepsPatterns self.old.levels self.new.levels }
         ensures tuples { self.new.tuples ≡ self.old.tuples }
+        ensures products { self.new.products ≡ self.old.products }
         ensures no_memory { OnErr result (self.new ≡ self.old) }
     {
         let level = a.level + 1;
-        if let Some(at) = self.find(level, a.at, bs) {
-            return Ok(Gid { level, at });
+        let (node, place) = self.find(a, bs)?;
+        if let Some(at) = place {
+            return Ok(Gid {
+                level,
+                at: at as u64,
+            });
         }
         let exits = goodness::exits_of(self, bs)?;
-        let at = self.levels[level as usize].len() as u64;
-        add(&mut self.levels, level as usize, a.at, bs, exits)?;
+        let at = self.levels[a.level as usize].len() as u64;
+        add(&mut self.levels, a.level as usize, node, exits)?;
         Ok(Gid { level, at })
+    }
+
+    /// The product of two groupings of one level, if the memo has it.
+    pub fn product_of(&self, g: Gid, h: Gid) -> Option<&Product>
+        requires first { Owns self.now g }
+        requires second { Owns self.now h }
+        ensures { MatchOption result
+            (IsNew self.now.products (patterns_of self.now.levels g h))
+            (λ r. IsProduct self.now.levels g h r.now.head r.now.pairs.items) }
+    {
+        self.products.get(&Operands { left: g, right: h })
+    }
+
+    /// Keeps a product of two groupings that the memo hasn't.
+    pub fn keep_product(
+        &mut self,
+        alloc: Global,
+        g: Gid,
+        h: Gid,
+        head: Gid,
+        pairs: &[(u64, u64)],
+    ) -> Result<(), NoMemory>
+        requires product { IsProduct self.old.levels g h head pairs.now }
+        requires new { IsNew self.old.products (patterns_of self.old.levels g h) }
+        ensures kept { OnOk result (self.new.products ≡ self.old.products ++ patterns_of self.old.levels g h ∷ []) }
+        ensures levels { self.new.levels ≡ self.old.levels }
+        ensures tuples { self.new.tuples ≡ self.old.tuples }
+        ensures no_memory { OnErr result (self.new ≡ self.old) }
+    {
+        let pairs = Vec::from_slice(alloc, pairs)?;
+        self.products
+            .insert(Operands { left: g, right: h }, Product { head, pairs })?;
+        Ok(())
+    }
+
+    /// The grouping with each exit of g replaced by its class, if the memo has it.
+    pub fn reduction_of(
+        &self,
+        alloc: Global,
+        g: Gid,
+        classes: &[u64],
+    ) -> Result<Option<Gid>, NoMemory>
+        ensures { IfOk result (λ o. IfSome o (λ h. IsReduction self.now.levels g classes.now h)) }
+    {
+        let classes = SmallVec::from_slice(alloc, classes)?;
+        let key = Classed {
+            grouping: g,
+            classes,
+        };
+        Ok(self.reductions.get(&key).copied())
+    }
+
+    /// Keeps such a grouping.
+    pub fn keep_reduction(
+        &mut self,
+        alloc: Global,
+        g: Gid,
+        classes: &[u64],
+        h: Gid,
+    ) -> Result<(), NoMemory>
+        requires { IsReduction self.old.levels g classes.now h }
+        ensures { self.new ≡ self.old }
+    {
+        let classes = SmallVec::from_slice(alloc, classes)?;
+        let key = Classed {
+            grouping: g,
+            classes,
+        };
+        self.reductions.insert(key, h)?;
+        Ok(())
+    }
+
+    /// Forgets all products and reductions.
+    pub fn forget(&mut self)
+        ensures products { self.new.products ≡ [] }
+        ensures levels { self.new.levels ≡ self.old.levels }
+        ensures tuples { self.new.tuples ≡ self.old.tuples }
+    {
+        self.products.clear();
+        self.reductions.clear();
     }
 
     /// Whether the table has the grouping.
@@ -248,19 +322,20 @@ impl Table {
     pub fn count(&self, level: u8) -> u64
         ensures { result ≡ count self.now.levels level }
     {
-        if level < 8 {
-            self.levels[level as usize].len() as u64
-        } else {
-            0
+        match level {
+            0 => 2,
+            1..=7 => self.levels[level as usize - 1].len() as u64,
+            _ => 0,
         }
     }
 
-    fn kept(&self, g: Gid) -> &Grouping
-        requires { Owns self.now g }
-        ensures shown { shown_node self.now.tuples result.now ≡ node_of self.now g }
-        ensures kept { IsKept self.now.tuples g.level result.now }
+    fn kept(&self, g: Gid) -> (&PackedNode, u64)
+        requires owned { Owns self.now g }
+        requires level { 1 ≤ g.level }
+        ensures shown { shown_node self.now.tuples (kept_of (result.0.now, result.1)) ≡ node_of self.now g }
+        ensures kept { IsKept self.now.tuples (kept_of (result.0.now, result.1)) }
     {
-        &self.levels[g.level as usize][g.at as usize]
+        self.levels[g.level as usize - 1].get(g.at as usize)
     }
 
     /// How many exits a grouping has.
@@ -272,7 +347,7 @@ impl Table {
         if g.level == 0 {
             g.at + 1
         } else {
-            self.kept(g).exits
+            self.kept(g).1
         }
     }
 
@@ -287,22 +362,21 @@ impl Table {
         self.law();
         Gid {
             level: g.level - 1,
-            at: self.kept(g).a_callee,
+            at: self.kept(g).0.a_callee as u64,
         }
     }
 
-    /// The B-connections of a grouping in order of its middle vertices, for a caller that counts
-    /// nothing.
-    pub fn b_connections(&self, g: Gid) -> &[BConn]
+    /// How many middle vertices a grouping has, for a caller that counts nothing.
+    pub fn middle_count(&self, g: Gid) -> u64
         requires owned { Owns self.now g }
         requires level { 1 ≤ g.level }
-        ensures shown { map (connection_of self.now.tuples) result.now ≡ (node_of self.now g).connections }
-        ensures placed { All (IsConnectionAt self.now.tuples g.level) result.now }
+        ensures { result ≡ length (node_of self.now g).connections }
     {
-        self.kept(g).b_connections.as_slice()
+        self.kept(g).0.connections.len() as u64
     }
 
-    fn connection(&self, g: Gid, j: u64) -> BConn
+    /// The B-connection of middle vertex j, for a caller that counts nothing.
+    pub fn connection(&self, g: Gid, j: u64) -> BConn
         requires owned { Owns self.now g }
         requires level { 1 ≤ g.level }
         requires middle { j < length (node_of self.now g).connections }
@@ -312,7 +386,16 @@ impl Table {
         ensures tuple { OwnsTuple self.now result.ret }
     {
         self.law();
-        self.kept(g).b_connections[j as usize]
+        let kept = self.kept(g).0.connections.as_slice()[j as usize];
+        BConn {
+            to: Gid {
+                level: g.level - 1,
+                at: kept.callee as u64,
+            },
+            ret: Tid {
+                at: kept.returns as u64,
+            },
+        }
     }
 
     /// How many middle vertices a grouping has.
@@ -323,7 +406,7 @@ impl Table {
         ensures ticks { steps.new ≡ steps.old + 1 }
     {
         steps.tick();
-        self.b_connections(g).len() as u64
+        self.middle_count(g)
     }
 
     /// The A-callee of a grouping.
@@ -372,10 +455,9 @@ impl Table {
         requires exit { e < exits_of self.now g }
         ensures { IsFirstOf (node_of self.now g).connections e result.0 result.1 }
     {
-        let bs = self.b_connections(g);
-        for j in 0..bs.len() {
-            if let Some(i) = place_in(self.tuple(bs[j].ret), e) {
-                return (j as u64, i as u64);
+        for j in 0..self.middle_count(g) {
+            if let Some(i) = place_in(self.tuple(self.connection(g, j).ret), e) {
+                return (j, i as u64);
             }
         }
         self.law();
@@ -405,6 +487,3 @@ pub fn same_pattern(table: &Table, g: Gid, h: Gid) -> bool
     table.law();
     g.at == h.at
 }
-
-#[cfg(test)]
-mod tests;

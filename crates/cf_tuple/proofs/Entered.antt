@@ -54,3 +54,26 @@ distinct_on-push seen (y ∷ xs) x = distinct_on-push (note nat_eq seen y) xs x
 pub distinct_entered : (all keys now : List ℕ) (x : ℕ) → keys ≡ distinct nat_eq all → now ≡ cond (list_any (nat_eq x) keys) keys (keys ++ x ∷ []) → now ≡ distinct nat_eq (all ++ x ∷ [])
 distinct_entered all keys now x e q =
     q ∙ ap (λ (b : Bool). cond b keys (keys ++ x ∷ [])) (any-sym x keys) ∙ ap (λ (ks : List ℕ). note nat_eq ks x) e ∙ sym (distinct_on-push [] all x)
+
+-- what an equal test finds, as the hashed search answers it
+pub found_so : (keys : List ℕ) (x at : ℕ) → slice_get keys at ≡ Some x → (key : ℕ) × (slice_get keys at ≡ Some key) × (nat_eq x key ≡ true)
+found_so keys x at h = (x, h, (nat_decides x x).1 refl)
+
+-- an entry that stands in the list is not added, and one that doesn't is
+pub known_key : (x : ℕ) (keys : List ℕ) (at : ℕ) → slice_get keys at ≡ Some x → keys ≡ cond (list_any (nat_eq x) keys) keys (keys ++ x ∷ [])
+known_key x keys at h = by (list_any (nat_eq x) keys) refl
+  where
+    by : (b : Bool) → list_any (nat_eq x) keys ≡ b → keys ≡ cond b keys (keys ++ x ∷ [])
+    by true e = refl
+    by false e = absurd (unknown x keys e at h)
+
+any_new : (x : ℕ) (keys : List ℕ) → IsNew keys x → list_any (nat_eq x) keys ≡ false
+any_new x [] new = refl
+any_new x (key ∷ keys) new = by (nat_eq x key) refl (any_new x keys (λ i h. new (suc i) h))
+  where
+    by : (b : Bool) → nat_eq x key ≡ b → list_any (nat_eq x) keys ≡ false → (b || list_any (nat_eq x) keys) ≡ false
+    by true e rest = absurd (new 0 (ap Some (sym ((nat_decides x key).0 e))))
+    by false e rest = rest
+
+pub new_key : (x : ℕ) (keys : List ℕ) → IsNew keys x → keys ++ x ∷ [] ≡ cond (list_any (nat_eq x) keys) keys (keys ++ x ∷ [])
+new_key x keys new = ap (λ (b : Bool). cond b keys (keys ++ x ∷ [])) (sym (any_new x keys new))

@@ -3,11 +3,13 @@
 
 pub mod lists;
 
-ghost use Rattle.std.specs.Prelude.{◌≡◌, ◌<◌, ◌↔◌, [], length, slice_get, Some, IsTrue, IfOk, OnErr, MatchOption};
-ghost use Rattle.cf_model.specs.Renumbering.{AllDiffer, IsNew};
+ghost use Rattle.std.specs.Prelude.{◌≡◌, ◌<◌, ◌↔◌, [], length, slice_get, Some, IsTrue, IfOk, IfSome, OnErr};
+ghost use Rattle.cf_model.specs.Renumbering.{AllDiffer};
 ghost use Rattle.cf_tuple.specs.Books.{IsInterned, Lengthens};
 
+use indexmap::IndexSet;
 pub use lists::{compose, distinct_of, rgs_of};
+use smallvec::SmallVec;
 use std::alloc::{AllocError, Global};
 use std::marker::Model;
 
@@ -20,22 +22,27 @@ pub struct Tid {
     pub at: u64,
 }
 
+/// How many entries of a list lie in the book itself. A longer list has an allocation of its own.
+const INLINE: usize = 8;
+
 /// Lists of numbers, each kept once. The book only grows, and an id keeps its list.
 #[derive(Drop)]
 pub struct TupleBook {
-    lists: Vec<Vec<u64>>,
+    lists: IndexSet<SmallVec<u64, 8>>,
+    /// Room for the longer list that is looked up.
+    sought: SmallVec<u64, 8>,
 }
 
 impl Model for TupleBook {
     ghost use Rattle.std.specs.Prelude.{List, ℕ};
     ghost use Rattle.cf_model.specs.Renumbering.{AllDiffer};
-    ghost use Rattle.cf_tuple.specs.Books.{items_of};
+    ghost use Rattle.cf_tuple.specs.Books.{lists_of};
 
     ghost Value = { List (List ℕ) };
 
-    ghost view = { λ book. items_of book.lists.items };
+    ghost view = { λ book. lists_of book.lists.keys };
 
-    ghost invariant = { λ book. AllDiffer (items_of book.lists.items) };
+    ghost invariant = { λ book. AllDiffer (lists_of book.lists.keys) };
 }
 
 impl TupleBook {
@@ -44,19 +51,32 @@ impl TupleBook {
         ensures { result ≡ [] }
     {
         TupleBook {
-            lists: Vec::new(alloc),
+            lists: IndexSet::new(alloc),
+            sought: SmallVec::new(alloc),
         }
     }
 
-    fn find(&self, list: &[u64]) -> Option<usize>
-        ensures { MatchOption result (IsNew self.now list.now) (λ i. slice_get self.now i ≡ Some list.now) }
+    /// The place of a list of any length, if the book has it. It takes memory only for a list that is longer than
+    /// each that was looked up so.
+    fn place_of(&mut self, list: &[u64]) -> Result<Option<usize>, NoMemory>
+        ensures there { IfOk result (λ o. IfSome o (λ i. slice_get self.old i ≡ Some list.now)) }
+        ensures same { self.new ≡ self.old }
+        ensures differ { AllDiffer self.new }
     {
-        for i in 0..self.lists.len() {
-            if self.lists[i].as_slice() == list {
-                return Some(i);
-            }
-        }
-        None
+        self.sought.clear();
+        self.sought.extend_from_slice(list)?;
+        Ok(self.lists.get_index_of(&self.sought))
+    }
+
+    fn note(&mut self, list: &[u64]) -> Result<Tid, NoMemory>
+        ensures interned { IfOk result (λ t. IsInterned self.old self.new list.now t.at) }
+        ensures kept { Lengthens self.old self.new }
+        ensures differ { AllDiffer self.new }
+        ensures no_memory { OnErr result (self.new ≡ self.old) }
+    {
+        let list = SmallVec::from_slice(*self.lists.allocator(), list)?;
+        let (at, _) = self.lists.insert_full(list)?;
+        Ok(Tid { at: at as u64 })
     }
 
     /// The id of the list, which is added if the book hasn't it.
@@ -66,14 +86,13 @@ impl TupleBook {
         ensures differ { AllDiffer self.new }
         ensures no_memory { OnErr result (self.new ≡ self.old) }
     {
-        if let Some(i) = self.find(list) {
-            return Ok(Tid { at: i as u64 });
+        if list.len() <= INLINE {
+            return self.note(list);
         }
-        let alloc = *self.lists.allocator();
-        let copy = Vec::from_slice(alloc, list)?;
-        let at = self.lists.len() as u64;
-        self.lists.push(copy)?;
-        Ok(Tid { at })
+        match self.place_of(list)? {
+            Some(at) => Ok(Tid { at: at as u64 }),
+            None => self.note(list),
+        }
     }
 
     /// Whether the book has the id.
@@ -89,35 +108,5 @@ impl TupleBook {
         ensures { slice_get self.now t.at ≡ Some result.now }
     {
         self.lists[t.at as usize].as_slice()
-    }
-}
-
-#[cfg(test)]
-mod tests {
-    use super::*;
-    use std::test::Fail;
-
-    #[test]
-    fn lists_and_ids(rt: HostRuntime) -> Result<(), Fail> {
-        let alloc = rt.alloc();
-        assert_eq!(rt;
-            distinct_of(alloc, &[7, 5, 7, 9, 5])?.as_slice(),
-            [7, 5, 9].as_slice()
-        );
-        assert_eq!(rt;
-            rgs_of(alloc, &[7, 5, 7, 9, 5])?.as_slice(),
-            [0, 1, 0, 2, 1].as_slice()
-        );
-        assert_eq!(rt;
-            compose(alloc, &[8, 6, 4], &[2, 0, 0])?.as_slice(),
-            [4, 8, 8].as_slice()
-        );
-        let mut book = TupleBook::new(alloc);
-        let up = book.intern(&[0, 1])?;
-        let down = book.intern(&[1, 0])?;
-        assert_eq!(rt; book.intern(&[0, 1])?, up);
-        assert!(rt; up != down);
-        assert_eq!(rt; book.get(down), [1, 0].as_slice());
-        Ok(())
     }
 }

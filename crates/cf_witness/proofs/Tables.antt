@@ -172,12 +172,6 @@ pub record RowTurn (t : Groupings) (g : Gid) (j : ℕ) (b : BConn) (xs : List �
   pub exits_are : xs ≡ tuple_of t.tuples b.ret
   pub inner_are : inner ≡ map (is_marked marks) xs
 
--- the B-connection that was read
-pub connection_read : (t : Groupings) (g : Gid) (bs : List BConn) (j : ℕ) (d : BConn) → map (connection_of t.tuples) bs ≡ (node_of t g).connections → j < length (node_of t g).connections → connection_of t.tuples (get_or bs j d) ≡ connection_at (node_of t g).connections j
-connection_read t g bs j d e h =
-    let long : length bs ≡ length (node_of t g).connections = sym (length-map bs (connection_of t.tuples)) ∙ ap length e in
-    sym (get_or-map (connection_of t.tuples) bs j d no_connection (omega (arith, h, long))) ∙ ap (λ (cs : List Connection). connection_at cs j) e
-
 row_good : (t : Groupings) (g : Gid) (j : ℕ) (b : BConn) (xs : List ℕ) (marks inner : List Bool) → RowTurn t g j b xs marks inner → IsGoodConnection (count t.levels b.«to».level) (exits t.levels b.«to».level) (connection_of t.tuples b)
 row_good t g j b xs marks inner w =
     let l = b.«to».level in

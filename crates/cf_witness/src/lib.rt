@@ -68,35 +68,3 @@ pub fn first_value(pkg: &Pkg, f: Func, v: i128) -> Option<Bits>
     let at = first_exit_uncounted::<Brand>(pkg.table(), f.head, e as u64, Blank::new(1));
     Some(at)
 }
-
-#[cfg(test)]
-mod tests {
-    use super::*;
-    use std::test::Fail;
-
-    #[test]
-    fn listed_in_order(rt: HostRuntime) -> Result<(), Fail> {
-        let alloc = rt.alloc();
-        let mut pkg = Pkg::new(alloc)?;
-        let second = pkg.variable(1, 1)?;
-        assert!(rt; pkg.owns(second));
-        let mut listing = Listing::new(alloc, &pkg, second, 1, 1000)?;
-        assert_eq!(rt; listing.next().map(|at| at.number()), Some(1));
-        assert_eq!(rt; listing.next().map(|at| at.number()), Some(3));
-        assert!(rt; listing.next().is_none());
-        Ok(())
-    }
-
-    #[test]
-    fn first_two_of_very_many(rt: HostRuntime) -> Result<(), Fail> {
-        let alloc = rt.alloc();
-        let mut pkg = Pkg::new(alloc)?;
-        let first = pkg.variable(7, 0)?;
-        assert!(rt; pkg.owns(first));
-        let mut listing = Listing::new(alloc, &pkg, first, 1, 2)?;
-        assert_eq!(rt; listing.next().map(|at| at.number()), Some(1 << 127));
-        assert_eq!(rt; listing.next().map(|at| at.number()), Some((1 << 127) + 1));
-        assert!(rt; listing.next().is_none());
-        Ok(())
-    }
-}

@@ -53,8 +53,8 @@ fn marks_of_middles(
     ensures { IfOk result (λ v. v.items ≡ map (λ b. has_marked marks.now b.returns) (node_of table.now g).connections) }
 {
     let mut middles = Vec::new(alloc);
-    for b in table.b_connections(g) {
-        middles.push(has_marked(marks, table.tuple(b.ret)))?;
+    for j in 0..table.middle_count(g) {
+        middles.push(has_marked(marks, table.tuple(table.connection(g, j).ret)))?;
     }
     Ok(middles)
 }
@@ -165,7 +165,7 @@ fn next_in_row(
         (λ p. IsNext list marks.now from p.number p.exit)) }
 {
     table.law();
-    let b = table.b_connections(g)[middle as usize];
+    let b = table.connection(g, middle);
     let exits = table.tuple(b.ret);
     let inner = marks_of(alloc, marks, exits)?;
     let Some(place) = next_place(alloc, table, b.to, inner.as_slice(), from)? else {

@@ -4,15 +4,15 @@ use Rattle.std.proofs.lemmas.Bool.{false≢true}
 use Rattle.std.proofs.lemmas.List.{get_or-map, get_or_default, length-map}
 use Rattle.cf_model.specs.Renumbering.{Grows, IsCanon}
 use Rattle.cf_model.specs.Diagrams.{Connection, no_connection, connection_at, count, node, exits, pattern, row, IsGoodNode}
-use Rattle.cf_model.proofs.Growing.{exits_kept}
+use Rattle.cf_model.proofs.Growing.{exits_kept, pattern_kept}
 use Rattle.cf_table.specs.declared.BConn.{BConn}
-use Rattle.cf_table.specs.Groupings.{node_with, IsInterned}
-use Rattle.cf_build.specs.Assembling.{classed}
+use Rattle.cf_table.specs.Groupings.{Groupings, node_with, IsInterned}
+use Rattle.cf_build.specs.Assembling.{Stands, classed}
 use Rattle.cf_build.specs.Joining.{IsLooseNode, IsLooseConnection, row_connection, loose_node, returning, classed_connection, IsThin, AreThin, blank}
 use Rattle.cf_build.specs.Parts.{AddsParts}
 use Rattle.cf_model.proofs.RenumberingLaws.{canon_length}
 use Rattle.cf_build.proofs.Joins.{made, base_merged}
-use Rattle.cf_build.proofs.Turns.{if_ok, if_ok2, Joining, joining_fit, joining_good, joined, merging, thinned}
+use Rattle.cf_build.proofs.Turns.{if_ok2, Joining, joining_fit, joining_good, joined, merging, thinned}
 use Rattle.cf_build.proofs.Loops.{going}
 use Rattle.cf_build.proofs.PartLaws.{join_added}
 use Rattle.cf_model.proofs.Canonicity.{level_holds}
@@ -98,7 +98,25 @@ merge-returns-clause-merged t c =
     let d_is : d ≡ made c.a_callee-a.result.at (map (classed_connection c.args.classes.now) (node c.args.table.now.levels c.args.g.level c.args.g.at).connections) =
     ap (λ (v : List _). made c.a_callee-a.result.at (map row_connection v)) c.as_slice.ensures.value ∙ ap (λ (v : List Connection). made c.a_callee-a.result.at v) c.in_ok-rows.ensures.rows in
     let r = (merging c.args.table.now.levels c.requires.good c.args.g.level l c.args.g.at c.a_callee-a.result.at c.args.classes.now d c.a_callee-a.ensures.level c.requires.owned c.a_callee-a.ensures.callee d_is c.requires.entries c.requires.grows).1 in
-    if_ok c.join.result _ _ c.join.ensures.joined (λ h s. record { level = s.level ∙ sym (add-one l) ∙ c.a_callee-a.ensures.level; there = s.there; is_it = s.is_it ∙ r })
+    let s = c.in_ok-merged.ensures.joined in
+    subst (λ (u : Groupings). Stands u.levels c.in_ok-merged.merged c.args.g.level (classed c.args.classes.now (pattern c.args.table.now.levels c.args.g.level c.args.g.at))) (sym c.in_ok-keep_reduction.ensures)
+    (record { level = s.level ∙ sym (add-one l) ∙ c.a_callee-a.ensures.level; there = s.there; is_it = s.is_it ∙ r })
+
+pub merge-keep_reduction-requires : goal.merge-keep_reduction-requires
+merge-keep_reduction-requires t c =
+    let l = c.a_callee-a.result.level in
+    let d = loose_node c.a_callee-a.result.at c.as_slice.result.now in
+    let d_is : d ≡ made c.a_callee-a.result.at (map (classed_connection c.args.classes.now) (node c.args.table.now.levels c.args.g.level c.args.g.at).connections) =
+    ap (λ (v : List _). made c.a_callee-a.result.at (map row_connection v)) c.as_slice.ensures.value ∙ ap (λ (v : List Connection). made c.a_callee-a.result.at v) c.in_ok-rows.ensures.rows in
+    let r = (merging c.args.table.now.levels c.requires.good c.args.g.level l c.args.g.at c.a_callee-a.result.at c.args.classes.now d c.a_callee-a.ensures.level c.requires.owned c.a_callee-a.ensures.callee d_is c.requires.entries c.requires.grows).1 in
+    let s = c.in_ok-merged.ensures.joined in
+    let x = c.in_ok-merged.ensures.extends in
+    record {
+      owned = omega (arith, c.requires.owned, x.more c.args.g.level);
+      level = s.level ∙ sym (add-one l) ∙ c.a_callee-a.ensures.level;
+      there = s.there;
+      is_it = s.is_it ∙ r ∙ ap (λ (p : List ℕ). classed c.args.classes.now p) (sym (pattern_kept c.args.table.now.levels c.join.new.table.levels c.requires.good x c.args.g.level c.args.g.at c.requires.owned));
+    }
 
 pub thin-returns-clause-thin : goal.thin-returns-clause-thin
 thin-returns-clause-thin t c =
@@ -139,7 +157,7 @@ thin_rows-loop-i-preserved t c =
     subst (λ (v : List ℕ). IsThin c.thin.new.table r.0.level (row (pattern now.levels r.0.level) (returning r.0.at v)) v b) c.as_slice.ensures.value c.in_ok-conn.ensures.thin in
     let thin2 : IsThin c.thin.new.table l (row (pattern now.levels l) (row_connection r)) r.1.items b = subst (λ (m : ℕ). IsThin c.thin.new.table m (row (pattern now.levels m) (row_connection r)) r.1.items b) lev thin1 in
     let thin3 : IsThin c.thin.new.table l (row (pattern now.levels l) (connection_at ns i)) (connection_at ns i).returns b = subst (λ (n : Connection). IsThin c.thin.new.table l (row (pattern now.levels l) n) n.returns b) (sym at) thin2 in
-    going c.args.table.now now c.thin.new.table l ns i c.loop-i.conns.items c.push.new.self.items b c.requires.good c.loop-i.invariant lt w.callee_exists thin3 (subst (λ (m : ℕ). AddsParts now.levels c.thin.new.table.levels m b.«to».at) lev c.in_ok-conn.ensures.added) c.in_ok-conn.ensures.good c.in_ok-conn.ensures.extends c.in_ok-conn.ensures.longer c.in_ok-push.ensures.items
+    going c.args.table.now now c.thin.new.table l ns i c.loop-i.conns.items c.push.new.self.items b c.requires.good c.loop-i.invariant lt w.callee_exists thin3 (subst (λ (m : ℕ). AddsParts now.levels c.thin.new.table.levels m b.«to».at) lev c.in_ok-conn.ensures.added) c.in_ok-conn.ensures.good c.in_ok-conn.ensures.extends c.in_ok-conn.ensures.longer c.in_ok-conn.ensures.products c.in_ok-push.ensures.items
 
 pub join-returns-clause-added : goal.join-returns-clause-added
 join-returns-clause-added t c =

@@ -1,16 +1,20 @@
-use Rattle.std.proofs.Common.{rules, ◌≡◌, ℕ, ◌<◌, ◌≤◌, ◌+◌, ◌*◌, ◌-◌, List, [], length, map, sym, ap, ◌∙◌, subst, arith, get_or}
+use Rattle.std.proofs.Common.{rules, true, false, ◌∷◌, ◌++◌, suc, refl, ◌≡◌, ℕ, ◌<◌, ◌≤◌, ◌+◌, ◌*◌, ◌-◌, List, [], length, map, sym, ap, ◌∙◌, subst, arith, get_or}
 use Rattle.std.specs.List.{zip, All}
-use Rattle.cf_model.specs.Renumbering.{IsCanon}
-use Rattle.cf_model.specs.Diagrams.{connection_at, count, node, row, pattern}
+use Rattle.std.specs.Result.{is_ok}
+use Rattle.cf_model.specs.Patterns.{Pattern}
+use Rattle.cf_model.specs.Renumbering.{IsCanon, IsNew}
+use Rattle.cf_model.specs.Diagrams.{Levels, connection_at, count, node, row, pattern}
 use Rattle.cf_model.specs.Patterns.{sub}
 use Rattle.cf_model.proofs.Canonicity.{level_holds}
-use Rattle.cf_model.proofs.Growing.{exits_kept}
+use Rattle.cf_model.proofs.Growing.{exits_kept, pattern_kept}
 use Rattle.cf_tuple.proofs.BookLaws.{kept_at}
-use Rattle.cf_table.specs.Groupings.{connection_of}
+use Rattle.cf_table.specs.Groupings.{connection_of, patterns_of}
 use Rattle.cf_table.specs.Goodness.{IsGoodOver}
 use Rattle.cf_build.specs.Assembling.{IsRow, HasCanon, AddsOnly}
 use Rattle.cf_build.proofs.Turns.{if_ok2}
 use Rattle.cf_pair.specs.Products.{returned2, pair_word, Lists, ListEach, AddsOnlyIn}
+use Rattle.cf_pair.specs.Charges.{IsCharged, pair_work}
+use Rattle.cf_pair.proofs.Bounds.{charged_none, charged_then, charged_weaker, charged_self, still_new, pair_kept, middles_fit, callee_charged, two_paid, rows_charged, row_parts, sub_self, failed}
 use Rattle.cf_pair.proofs.Zips.{Both}
 use Rattle.cf_pair.proofs.Rows.{listed_more}
 use Rattle.cf_pair.proofs.Pairs.{read_good, read_row, pairs_in, pair_lists, middles_canon, middles_in, level_with, PairCall, assembly}
@@ -62,20 +66,20 @@ pub pair_rows-pair_row-requires : goal.pair_rows-pair_row-requires
 pair_rows-pair_row-requires g t c κs within =
     let old = c.args.table.now in
     let now = c.loop-i.table in
-    let x = c.loop-i.invariant.extends in
+    let x = c.loop-i.invariant.listed.extends in
     let k = c.args.g.level in
     let l = k - 1 in
     let m = get_or c.args.middles.now c.loop-i.i (0, 0) in
     let in_ = c.requires.middles c.loop-i.i (0, 0) c.loop-i-test.true in
     let b = c.b_of-b.result in
     let d = c.b_of-c.result in
-    let gb : IsGoodOver now l b = read_good old now c.loop-i.invariant.good x k l c.args.g.at m.0 (omega (arith, c.requires.above)) c.requires.first in_.0 b c.b_of-b.ensures.level c.b_of-b.ensures.connection c.b_of-b.ensures.tuple in
-    let gd : IsGoodOver now l d = read_good old now c.loop-i.invariant.good x c.args.h.level l c.args.h.at m.1 (omega (arith, c.requires.above, c.requires.levels)) c.requires.second in_.1 d c.b_of-c.ensures.level c.b_of-c.ensures.connection c.b_of-c.ensures.tuple in
+    let gb : IsGoodOver now l b = read_good old now c.loop-i.invariant.listed.good x k l c.args.g.at m.0 (omega (arith, c.requires.above)) c.requires.first in_.0 b c.b_of-b.ensures.level c.b_of-b.ensures.connection c.b_of-b.ensures.tuple in
+    let gd : IsGoodOver now l d = read_good old now c.loop-i.invariant.listed.good x c.args.h.level l c.args.h.at m.1 (omega (arith, c.requires.above, c.requires.levels)) c.requires.second in_.1 d c.b_of-c.ensures.level c.b_of-c.ensures.connection c.b_of-c.ensures.tuple in
     let lev : b.«to».level ≡ l = gb.over.level in
     let six : b.«to».level ≤ 6 = omega (arith, lev, c.requires.level) in
     let fb : IsGoodOver now b.«to».level b = subst (λ (i : ℕ). IsGoodOver now i b) (sym lev) gb in
     let fd : IsGoodOver now b.«to».level d = subst (λ (i : ℕ). IsGoodOver now i d) (sym lev) gd in
-    let falls : 3 * b.«to».level + 1 < 3 * k - 1 = omega (arith, lev, c.requires.above) in
+    let falls : 4 * b.«to».level + 1 < 4 * k - 2 = omega (arith, lev, c.requires.above) in
     search rules
 
 pub pair_rows-loop-i-preserved : goal.pair_rows-loop-i-preserved
@@ -83,7 +87,7 @@ pair_rows-loop-i-preserved g t c =
     let old = c.args.table.now in
     let now = c.loop-i.table in
     let new = c.pair_row.new.table in
-    let x = c.loop-i.invariant.extends in
+    let x = c.loop-i.invariant.listed.extends in
     let k = c.args.g.level in
     let l = k - 1 in
     let m = get_or c.args.middles.now c.loop-i.i (0, 0) in
@@ -101,11 +105,18 @@ pair_rows-loop-i-preserved g t c =
     let wanted : Lists new.levels l (pair_word (pattern old.levels l) (node old.levels k c.args.g.at).connections (node old.levels c.args.h.level c.args.h.at).connections m) r =
     subst (λ (v : List (ℕ × ℕ)). Lists new.levels l v r) (ap (λ (v : List ℕ). zip v (row (pattern now.levels l) (connection_of now.tuples d))) eb ∙ ap (λ (v : List ℕ). zip (row (pattern old.levels l) (connection_at (node old.levels k c.args.g.at).connections m.0)) v) ed) lists in
     let added : AddsOnly now.levels new.levels (sub l (pattern new.levels l r.0.at)) = subst (λ (i : ℕ). AddsOnly now.levels new.levels (sub i (pattern new.levels i r.0.at))) lev c.in_ok-row.ensures.added in
-    listed_more old now new l (λ i. pair_word (pattern old.levels l) (node old.levels k c.args.g.at).connections (node old.levels c.args.h.level c.args.h.at).connections (get_or c.args.middles.now i (0, 0))) c.loop-i.i c.loop-i.rows.items c.push.new.self.items r c.loop-i.invariant wanted added
-    c.in_ok-row.ensures.good c.in_ok-row.ensures.extends c.in_ok-row.ensures.longer c.in_ok-push.ensures.items
+    record {
+      listed = listed_more old now new l (λ i. pair_word (pattern old.levels l) (node old.levels k c.args.g.at).connections (node old.levels c.args.h.level c.args.h.at).connections (get_or c.args.middles.now i (0, 0))) c.loop-i.i c.loop-i.rows.items c.push.new.self.items r c.loop-i.invariant.listed wanted added
+          c.in_ok-row.ensures.good c.in_ok-row.ensures.extends c.in_ok-row.ensures.longer c.in_ok-push.ensures.items;
+      charged = (let inv = c.loop-i.invariant.charged in
+          charged_then old.products now.products new.products (patterns_of old.levels c.args.g c.args.h).0 (patterns_of old.levels c.args.g c.args.h).1 (patterns_of now.levels b.«to» d.«to»).0 (patterns_of now.levels b.«to» d.«to»).1 k (suc b.«to».level) (2 * (c.loop-i.i + 1)) (2 * c.loop-i.i) 0
+          c.args.steps.now c.loop-i.steps c.b_of-c.new.steps c.pair_row.new.steps true inv c.in_ok-row.ensures.charged
+          (row_parts old now c.requires.good x c.args.g c.args.h b d m c.requires.first c.requires.second in_ c.b_of-b.ensures.level c.b_of-c.ensures.level c.b_of-b.ensures.connection c.b_of-c.ensures.connection)
+          (omega (arith, c.b_of-b.ensures.ticks, c.b_of-c.ensures.ticks)));
+    }
 
-pub pair_groupings-pair_rows-requires : goal.pair_groupings-pair_rows-requires
-pair_groupings-pair_rows-requires g t c κs within =
+pub pair_parts-pair_rows-requires : goal.pair_parts-pair_rows-requires
+pair_parts-pair_rows-requires g t c κs within =
     let old = c.args.table.now.levels in
     let new = c.pair_groupings.new.table.levels in
     let k = c.args.g.level in
@@ -115,7 +126,7 @@ pair_groupings-pair_rows-requires g t c κs within =
     let e = c.in_ok-callee.callee in
     let ms = c.as_slice.result.now in
     let x = c.in_ok-callee.ensures.extends in
-    let positive : 1 ≤ k = omega (arith, c.if-g-eq0.false) in
+    let positive : 1 ≤ k = c.requires.above in
     let h = level_with old new e a b l zip c.in_ok-callee.middles.items c.in_ok-callee.ensures.paired (omega (arith, c.a_of-a.ensures.level)) (omega (arith, c.a_of-b.ensures.level, c.requires.levels)) in
     let canon : IsCanon (zip (pattern old l a.at) (pattern old l b.at)) (pattern new e.level e.at) ms = subst (λ (v : List (ℕ × ℕ)). IsCanon (zip (pattern old l a.at) (pattern old l b.at)) (pattern new e.level e.at) v) (sym c.as_slice.ensures.value) h.canon in
     let h0 : c.args.h.at < count old k = subst (λ (i : ℕ). c.args.h.at < count old i) c.requires.levels c.requires.second in
@@ -128,19 +139,19 @@ pair_groupings-pair_rows-requires g t c κs within =
     let range = middles_in new c.in_ok-callee.ensures.good k l c.args.g.at c.args.h.at (pattern new e.level e.at) ms below gu hk mc in
     let all : All (λ m. (m.0 < length (node new k c.args.g.at).connections) × (m.1 < length (node new c.args.h.level c.args.h.at).connections)) ms =
     subst (λ (i : ℕ). All (Both (length (node new k c.args.g.at).connections) (length (node new i c.args.h.at).connections)) ms) (sym c.requires.levels) range in
-    let falls : 3 * k - 1 < 3 * k = omega (arith, positive) in
+    let falls : 4 * k - 2 < 4 * k - 1 = omega (arith, positive) in
     search rules
 
-pub pair_groupings-assemble-requires-clause-middles : goal.pair_groupings-assemble-requires-clause-middles
-pair_groupings-assemble-requires-clause-middles g t c =
+pub pair_parts-assemble-requires-clause-middles : goal.pair_parts-assemble-requires-clause-middles
+pair_parts-assemble-requires-clause-middles g t c =
     let new = c.pair_groupings.new.table.levels in
     let e = c.in_ok-callee.callee in
     let p = c.in_ok-callee.ensures.paired in
     ap length c.as_slice-2.ensures.value ∙ c.in_ok-rows.ensures.rows.long ∙ ap length c.as_slice.ensures.value ∙ sym p.canon.reached
     ∙ (level_holds new c.in_ok-callee.ensures.good e.level).reaches e.at p.there ∙ sym (exits_kept new c.pair_rows.new.table.levels c.in_ok-rows.ensures.extends e.level e.at p.there)
 
-pub pair_groupings-assemble-requires-clause-rows : goal.pair_groupings-assemble-requires-clause-rows
-pair_groupings-assemble-requires-clause-rows g t c k d lk =
+pub pair_parts-assemble-requires-clause-rows : goal.pair_parts-assemble-requires-clause-rows
+pair_parts-assemble-requires-clause-rows g t c k d lk =
     let v = c.pair_rows.new.table.levels in
     let q = c.as_slice-2.ensures.value in
     let w = c.in_ok-rows.ensures.rows in
@@ -148,8 +159,8 @@ pair_groupings-assemble-requires-clause-rows g t c k d lk =
     let lev : c.args.g.level - 1 ≡ c.in_ok-callee.callee.level = omega (arith, c.in_ok-callee.ensures.paired.level, c.a_of-a.ensures.level) in
     subst (λ (l : ℕ). IsRow v l (get_or c.as_slice-2.result.now k d)) lev (subst (λ (x : _). IsRow v (c.args.g.level - 1) (get_or x k d)) (sym q) r)
 
-pub pair_groupings-returns-clause-paired : goal.pair_groupings-returns-clause-paired
-pair_groupings-returns-clause-paired g t c =
+pub pair_parts-returns-clause-paired : goal.pair_parts-returns-clause-paired
+pair_parts-returns-clause-paired g t c =
     let old = c.args.table.now.levels in
     let new = c.pair_groupings.new.table.levels in
     let v = c.pair_rows.new.table.levels in
@@ -158,7 +169,7 @@ pair_groupings-returns-clause-paired g t c =
     let l = c.args.g.level - 1 in
     let w : PairCall old new v c.args.g c.args.h c.a_of-a.result c.a_of-b.result c.in_ok-callee.callee ms rows = record {
       good = c.requires.good;
-      positive = c.if-g-eq0.false;
+      positive = λ e. omega (arith, e, c.requires.above);
       levels = c.requires.levels;
       first = c.requires.first;
       second = c.requires.second;
@@ -177,8 +188,8 @@ pair_groupings-returns-clause-paired g t c =
     if_ok2 c.assemble.result _ _ _ c.assemble.ensures.assembled c.assemble.ensures.added
     (λ r s x. (assembly old new v c.assemble.new.table.levels c.args.g c.args.h c.a_of-a.result c.a_of-b.result c.in_ok-callee.callee ms rows r.0 r.1.items w c.assemble.ensures.good c.assemble.ensures.kept s c.in_ok-callee.ensures.added added x).0)
 
-pub pair_groupings-returns-clause-added : goal.pair_groupings-returns-clause-added
-pair_groupings-returns-clause-added g t c =
+pub pair_parts-returns-clause-added : goal.pair_parts-returns-clause-added
+pair_parts-returns-clause-added g t c =
     let old = c.args.table.now.levels in
     let new = c.pair_groupings.new.table.levels in
     let v = c.pair_rows.new.table.levels in
@@ -187,7 +198,7 @@ pair_groupings-returns-clause-added g t c =
     let l = c.args.g.level - 1 in
     let w : PairCall old new v c.args.g c.args.h c.a_of-a.result c.a_of-b.result c.in_ok-callee.callee ms rows = record {
       good = c.requires.good;
-      positive = c.if-g-eq0.false;
+      positive = λ e. omega (arith, e, c.requires.above);
       levels = c.requires.levels;
       first = c.requires.first;
       second = c.requires.second;
@@ -205,3 +216,161 @@ pair_groupings-returns-clause-added g t c =
     let added : AddsOnlyIn new v l rows = subst (λ (x : _). AddsOnlyIn new v l x) (sym c.as_slice-2.ensures.value) c.in_ok-rows.ensures.added in
     if_ok2 c.assemble.result _ _ _ c.assemble.ensures.assembled c.assemble.ensures.added
     (λ r s x. (assembly old new v c.assemble.new.table.levels c.args.g c.args.h c.a_of-a.result c.a_of-b.result c.in_ok-callee.callee ms rows r.0 r.1.items w c.assemble.ensures.good c.assemble.ensures.kept s c.in_ok-callee.ensures.added added x).1)
+
+pub pair_groupings-returns-then-g-eq0-clause-charged : goal.pair_groupings-returns-then-g-eq0-clause-charged
+pair_groupings-returns-then-g-eq0-clause-charged g t c = charged_none _ _ _ _ _ _ _ _ _ refl (omega arith)
+
+pub pair_groupings-returns-in_err-product-clause-charged : goal.pair_groupings-returns-in_err-product-clause-charged
+pair_groupings-returns-in_err-product-clause-charged g t c = charged_none _ _ _ _ _ _ _ _ _ refl (omega arith)
+
+pub pair_groupings-returns-in-Some-clause-charged : goal.pair_groupings-returns-in-Some-clause-charged
+pair_groupings-returns-in-Some-clause-charged g t c = charged_none _ _ _ _ _ _ _ _ _ refl (omega arith)
+
+pub pair_groupings-returns-in-Some-product_of-clause-charged : goal.pair_groupings-returns-in-Some-product_of-clause-charged
+pair_groupings-returns-in-Some-product_of-clause-charged g t c = charged_none _ _ _ _ _ _ _ _ _ refl (omega arith)
+
+pub pair_groupings-returns-in_err-head-clause-charged : goal.pair_groupings-returns-in_err-head-clause-charged
+pair_groupings-returns-in_err-head-clause-charged g t c =
+    let old = c.args.table.now in
+    let k = patterns_of old.levels c.args.g c.args.h in
+    charged_self old.products c.pair_parts.new.table.products c.pair_parts.new.table.products k.0 k.1 (2 * pair_work k) c.args.steps.now c.pair_parts.new.steps false (is_ok c.from_residual-in_err-head.result) c.in_err-head.ensures.charged c.in_default-product_of.ensures (omega arith)
+    (sub_self k.0.level k.0.ranks) (sub_self k.1.level k.1.ranks) (λ e. absurd (failed c.from_residual-in_err-head.result c.from_residual-in_err-head.ensures.0 e))
+
+pub pair_groupings-keep_product-requires-clause-product : goal.pair_groupings-keep_product-requires-clause-product
+pair_groupings-keep_product-requires-clause-product g t c =
+    let old = c.args.table.now.levels in
+    let new = c.pair_parts.new.table.levels in
+    let x = c.in_ok-head.ensures.extends in
+    let p = c.in_ok-head.ensures.paired in
+    let k = c.args.g.level in
+    let l = c.args.h.level in
+    record {
+      first = omega (arith, c.requires.first, x.more k);
+      second = omega (arith, c.requires.second, x.more l);
+      levels = c.requires.levels;
+      level = p.level;
+      there = p.there;
+      canon = subst (λ (ps : List (ℕ × ℕ)). IsCanon (zip (pattern new k c.args.g.at) (pattern new l c.args.h.at)) (pattern new c.in_ok-head.head.level c.in_ok-head.head.at) ps) (sym c.as_slice.ensures.value)
+          (subst (λ (r : List ℕ). IsCanon (zip r (pattern new l c.args.h.at)) (pattern new c.in_ok-head.head.level c.in_ok-head.head.at) c.in_ok-head.pairs.items) (sym (pattern_kept old new c.requires.good x k c.args.g.at c.requires.first))
+          (subst (λ (r : List ℕ). IsCanon (zip (pattern old k c.args.g.at) r) (pattern new c.in_ok-head.head.level c.in_ok-head.head.at) c.in_ok-head.pairs.items) (sym (pattern_kept old new c.requires.good x l c.args.h.at c.requires.second)) p.canon));
+    }
+
+pub pair_groupings-keep_product-requires-clause-new : goal.pair_groupings-keep_product-requires-clause-new
+pair_groupings-keep_product-requires-clause-new g t c =
+    let old = c.args.table.now in
+    let new = c.pair_parts.new.table in
+    let k = patterns_of old.levels c.args.g c.args.h in
+    subst (λ (x : Pattern × Pattern). IsNew new.products x) (sym (pair_kept old.levels new.levels c.requires.good c.in_ok-head.ensures.extends c.args.g c.args.h c.requires.first c.requires.second))
+    (still_new old.products new.products k.0 k.1 (2 * pair_work k) c.args.steps.now c.pair_parts.new.steps c.in_ok-head.ensures.charged c.in_default-product_of.ensures)
+
+pub pair_groupings-returns-in_err-keep_product-clause-charged : goal.pair_groupings-returns-in_err-keep_product-clause-charged
+pair_groupings-returns-in_err-keep_product-clause-charged g t c =
+    let old = c.args.table.now in
+    let k = patterns_of old.levels c.args.g c.args.h in
+    charged_self old.products c.pair_parts.new.table.products c.keep_product.new.self.products k.0 k.1 (2 * pair_work k) c.args.steps.now c.pair_parts.new.steps true (is_ok c.from_residual-in_err-keep_product.result) c.in_ok-head.ensures.charged c.in_default-product_of.ensures (omega arith)
+    (sub_self k.0.level k.0.ranks) (sub_self k.1.level k.1.ranks) (λ e. absurd (failed c.from_residual-in_err-keep_product.result c.from_residual-in_err-keep_product.ensures.0 e))
+
+pub pair_groupings-returns-clause-added : goal.pair_groupings-returns-clause-added
+pair_groupings-returns-clause-added g t c =
+    subst (λ (u : Levels). AddsOnly c.args.table.now.levels u (sub c.in_ok-head.head.level (pattern u c.in_ok-head.head.level c.in_ok-head.head.at))) (sym c.in_ok-keep_product.ensures.levels) c.in_ok-head.ensures.added
+
+pub pair_groupings-returns-clause-charged : goal.pair_groupings-returns-clause-charged
+pair_groupings-returns-clause-charged g t c =
+    let old = c.args.table.now in
+    let new = c.pair_parts.new.table in
+    let k = patterns_of old.levels c.args.g c.args.h in
+    let same = pair_kept old.levels new.levels c.requires.good c.in_ok-head.ensures.extends c.args.g c.args.h c.requires.first c.requires.second in
+    charged_self old.products new.products c.keep_product.new.self.products k.0 k.1 (2 * pair_work k) c.args.steps.now c.pair_parts.new.steps true true c.in_ok-head.ensures.charged c.in_default-product_of.ensures (omega arith)
+    (sub_self k.0.level k.0.ranks) (sub_self k.1.level k.1.ranks) (λ e. (refl, c.in_ok-keep_product.ensures.kept ∙ ap (λ (x : Pattern × Pattern). new.products ++ x ∷ []) same))
+
+pub pair_parts-returns-in_err-callee-clause-charged : goal.pair_parts-returns-in_err-callee-clause-charged
+pair_parts-returns-in_err-callee-clause-charged g t c =
+    let old = c.args.table.now in
+    let a = c.a_of-a in
+    let b = c.a_of-b in
+    let k = patterns_of old.levels c.args.g c.args.h in
+    let n = c.pair_groupings.new.table.products in
+    let s = c.pair_groupings.new.steps in
+    charged_weaker old.products n k.0 k.1 c.args.g.level 2 (2 * pair_work k) c.args.steps.now s false (is_ok c.from_residual.result)
+    (callee_charged old n c.args.g c.args.h a.result b.result c.args.steps.now b.new.steps s false c.requires.good c.requires.first c.requires.second a.ensures.level a.ensures.callee b.ensures.level b.ensures.callee (omega (arith, a.ensures.ticks, b.ensures.ticks)) c.in_err-callee.ensures.charged)
+    (two_paid old.levels c.requires.good c.args.g c.args.h c.requires.above c.requires.levels c.requires.first c.requires.second)
+    (λ e. absurd (failed c.from_residual.result c.from_residual.ensures.0 e))
+
+pub pair_parts-returns-in_err-rows-clause-charged : goal.pair_parts-returns-in_err-rows-clause-charged
+pair_parts-returns-in_err-rows-clause-charged g t c =
+    let old = c.args.table.now in
+    let new = c.pair_groupings.new.table in
+    let a = c.a_of-a in
+    let b = c.a_of-b in
+    let k = patterns_of old.levels c.args.g c.args.h in
+    let q = c.in_ok-callee.ensures in
+    let ms = c.as_slice.result.now in
+    let canon = subst (λ (x : List (ℕ × ℕ)). HasCanon new.levels c.in_ok-callee.callee a.result.level (zip (pattern old.levels a.result.level a.result.at) (pattern old.levels b.result.level b.result.at)) x) (sym c.as_slice.ensures.value) q.paired in
+    let fit = middles_fit old.levels new.levels c.args.g c.args.h a.result b.result c.in_ok-callee.callee ms c.requires.good q.good q.extends c.requires.above c.requires.levels c.requires.first c.requires.second a.ensures.level a.ensures.callee b.ensures.level b.ensures.callee canon in
+    let first = callee_charged old new.products c.args.g c.args.h a.result b.result c.args.steps.now b.new.steps c.pair_groupings.new.steps true c.requires.good c.requires.first c.requires.second a.ensures.level a.ensures.callee b.ensures.level b.ensures.callee (omega (arith, a.ensures.ticks, b.ensures.ticks)) q.charged in
+    charged_weaker old.products c.pair_rows.new.table.products k.0 k.1 c.args.g.level (2 * pair_work k) (2 * pair_work k) c.args.steps.now c.pair_rows.new.steps false (is_ok c.from_residual-in_err-rows.result)
+    (rows_charged old new c.pair_rows.new.table.products c.args.g c.args.h ms c.args.steps.now c.pair_groupings.new.steps c.pair_rows.new.steps false c.requires.good q.good q.extends c.requires.above c.requires.levels c.requires.first c.requires.second fit first c.in_err-rows.ensures.charged)
+    (omega arith)
+    (λ e. absurd (failed c.from_residual-in_err-rows.result c.from_residual-in_err-rows.ensures.0 e))
+
+pub pair_parts-returns-clause-charged : goal.pair_parts-returns-clause-charged
+pair_parts-returns-clause-charged g t c =
+    let old = c.args.table.now in
+    let new = c.pair_groupings.new.table in
+    let a = c.a_of-a in
+    let b = c.a_of-b in
+    let k = patterns_of old.levels c.args.g c.args.h in
+    let q = c.in_ok-callee.ensures in
+    let ms = c.as_slice.result.now in
+    let canon = subst (λ (x : List (ℕ × ℕ)). HasCanon new.levels c.in_ok-callee.callee a.result.level (zip (pattern old.levels a.result.level a.result.at) (pattern old.levels b.result.level b.result.at)) x) (sym c.as_slice.ensures.value) q.paired in
+    let fit = middles_fit old.levels new.levels c.args.g c.args.h a.result b.result c.in_ok-callee.callee ms c.requires.good q.good q.extends c.requires.above c.requires.levels c.requires.first c.requires.second a.ensures.level a.ensures.callee b.ensures.level b.ensures.callee canon in
+    let first = callee_charged old new.products c.args.g c.args.h a.result b.result c.args.steps.now b.new.steps c.pair_groupings.new.steps true c.requires.good c.requires.first c.requires.second a.ensures.level a.ensures.callee b.ensures.level b.ensures.callee (omega (arith, a.ensures.ticks, b.ensures.ticks)) q.charged in
+    charged_weaker old.products c.assemble.new.table.products k.0 k.1 c.args.g.level (2 * pair_work k) (2 * pair_work k) c.args.steps.now c.pair_rows.new.steps true (is_ok c.assemble.result)
+    (subst (λ (n : List (Pattern × Pattern)). IsCharged old.products n k.0 k.1 c.args.g.level (2 * pair_work k) c.args.steps.now c.pair_rows.new.steps true) (sym c.assemble.ensures.products)
+    (rows_charged old new c.pair_rows.new.table.products c.args.g c.args.h ms c.args.steps.now c.pair_groupings.new.steps c.pair_rows.new.steps true c.requires.good q.good q.extends c.requires.above c.requires.levels c.requires.first c.requires.second fit first c.in_ok-rows.ensures.charged))
+    (omega arith)
+    (λ e. refl)
+
+pub pair_rows-loop-i-init : goal.pair_rows-loop-i-init
+pair_rows-loop-i-init g t c = record {
+  listed = search rules;
+  charged = charged_none _ _ _ _ _ _ _ _ _ refl (omega arith);
+}
+
+pub pair_rows-returns-in_err-row-clause-charged : goal.pair_rows-returns-in_err-row-clause-charged
+pair_rows-returns-in_err-row-clause-charged g t c =
+    let old = c.args.table.now in
+    let now = c.loop-i.table in
+    let x = c.loop-i.invariant.listed.extends in
+    let m = get_or c.args.middles.now c.loop-i.i (0, 0) in
+    let in_ = c.requires.middles c.loop-i.i (0, 0) c.loop-i-test.true in
+    let b = c.b_of-b in
+    let d = c.b_of-c in
+    let k = patterns_of old.levels c.args.g c.args.h in
+    let q = patterns_of now.levels b.result.«to» d.result.«to» in
+    let own = 2 * length c.args.middles.now in
+    charged_weaker old.products c.pair_row.new.table.products k.0 k.1 c.args.g.level own own c.args.steps.now c.pair_row.new.steps false (is_ok c.from_residual.result)
+    (charged_then old.products now.products c.pair_row.new.table.products k.0 k.1 q.0 q.1 c.args.g.level (suc b.result.«to».level) own (2 * c.loop-i.i) 0 c.args.steps.now c.loop-i.steps d.new.steps c.pair_row.new.steps false c.loop-i.invariant.charged c.in_err-row.ensures.charged
+    (row_parts old now c.requires.good x c.args.g c.args.h b.result d.result m c.requires.first c.requires.second in_ b.ensures.level d.ensures.level b.ensures.connection d.ensures.connection)
+    (omega (arith, b.ensures.ticks, d.ensures.ticks, c.loop-i-test.true)))
+    (omega arith)
+    (λ e. absurd (failed c.from_residual.result c.from_residual.ensures.0 e))
+
+pub pair_rows-returns-in_err-push-clause-charged : goal.pair_rows-returns-in_err-push-clause-charged
+pair_rows-returns-in_err-push-clause-charged g t c =
+    let old = c.args.table.now in
+    let now = c.loop-i.table in
+    let x = c.loop-i.invariant.listed.extends in
+    let m = get_or c.args.middles.now c.loop-i.i (0, 0) in
+    let in_ = c.requires.middles c.loop-i.i (0, 0) c.loop-i-test.true in
+    let b = c.b_of-b in
+    let d = c.b_of-c in
+    let k = patterns_of old.levels c.args.g c.args.h in
+    let q = patterns_of now.levels b.result.«to» d.result.«to» in
+    let own = 2 * length c.args.middles.now in
+    charged_weaker old.products c.pair_row.new.table.products k.0 k.1 c.args.g.level own own c.args.steps.now c.pair_row.new.steps true _
+    (charged_then old.products now.products c.pair_row.new.table.products k.0 k.1 q.0 q.1 c.args.g.level (suc b.result.«to».level) own (2 * c.loop-i.i) 0 c.args.steps.now c.loop-i.steps d.new.steps c.pair_row.new.steps true c.loop-i.invariant.charged c.in_ok-row.ensures.charged
+    (row_parts old now c.requires.good x c.args.g c.args.h b.result d.result m c.requires.first c.requires.second in_ b.ensures.level d.ensures.level b.ensures.connection d.ensures.connection)
+    (omega (arith, b.ensures.ticks, d.ensures.ticks, c.loop-i-test.true)))
+    (omega arith)
+    (λ e. refl)

@@ -1,32 +1,27 @@
 use Rattle.std.proofs.Common.{rules, ◌≡◌, ◌<◌, ◌≤◌, ◌-◌, ◌*◌, length, get_or, sym, ap, ◌∙◌, arith}
 use Rattle.std.proofs.lemmas.List.{length-map}
 use Rattle.cf_model.specs.FlatFunctions.{points}
-use Rattle.cf_table.specs.declared.BConn.{BConn}
 use Rattle.cf_table.specs.Groupings.{Owns, node_of, pattern_of, connection_of}
 use Rattle.cf_witness.specs.Nexts.{LacksMarked, IsNext}
 use Rattle.cf_witness.proofs.Marks.{none_told, some_told}
-use Rattle.cf_witness.proofs.Tables.{Turn, RowTurn, row_of, connection_read, turn_positive, turn_begun, turn_none, turn_ended, turn_found, turn_passed, turn_first, turn_fits, row_callee, row_none, row_some}
+use Rattle.cf_witness.proofs.Tables.{Turn, RowTurn, row_of, turn_positive, turn_begun, turn_none, turn_ended, turn_found, turn_passed, turn_first, turn_fits, row_callee, row_none, row_some}
 use Rattle.cf_witness.proofs.next.+next.Goals as goal
-
-abbrev blank : BConn
-blank = record { «to» = record { level = 0; at = 0 }; ret = record { at = 0 } }
 
 pub next_in_row-next_place-requires : goal.next_in_row-next_place-requires
 next_in_row-next_place-requires t' c =
     let t = c.args.table.now in
     let g = c.args.g in
     let j = c.args.middle in
-    let b = get_or c.b_connections.result.now j blank in
+    let b = c.connection-b.result in
     let xs = c.tuple-exits.result.now in
     let marks = c.args.marks.now in
     let inner = c.as_slice.result.now in
-    let long : length c.b_connections.result.now ≡ length (node_of t g).connections = sym (length-map c.b_connections.result.now (connection_of t.tuples)) ∙ ap length c.b_connections.ensures.shown in
     let turn : RowTurn t g j b xs marks inner = record {
       good = c.law.ensures.good;
       owned = c.requires.owned;
-      level = (c.b_connections.ensures.placed j blank (omega (arith, long, c.requires.middle))).0;
+      level = c.connection-b.ensures.level;
       middle = c.requires.middle;
-      connection = connection_read t g c.b_connections.result.now j blank c.b_connections.ensures.shown c.requires.middle;
+      connection = c.connection-b.ensures.connection;
       exits_are = c.tuple-exits.ensures;
       inner_are = c.as_slice.ensures.value ∙ c.in_ok-inner.ensures;
     } in
@@ -41,17 +36,16 @@ next_in_row-returns-in_default t' c =
     let t = c.args.table.now in
     let g = c.args.g in
     let j = c.args.middle in
-    let b = get_or c.b_connections.result.now j blank in
+    let b = c.connection-b.result in
     let xs = c.tuple-exits.result.now in
     let marks = c.args.marks.now in
     let inner = c.as_slice.result.now in
-    let long : length c.b_connections.result.now ≡ length (node_of t g).connections = sym (length-map c.b_connections.result.now (connection_of t.tuples)) ∙ ap length c.b_connections.ensures.shown in
     let turn : RowTurn t g j b xs marks inner = record {
       good = c.law.ensures.good;
       owned = c.requires.owned;
-      level = (c.b_connections.ensures.placed j blank (omega (arith, long, c.requires.middle))).0;
+      level = c.connection-b.ensures.level;
       middle = c.requires.middle;
-      connection = connection_read t g c.b_connections.result.now j blank c.b_connections.ensures.shown c.requires.middle;
+      connection = c.connection-b.ensures.connection;
       exits_are = c.tuple-exits.ensures;
       inner_are = c.as_slice.ensures.value ∙ c.in_ok-inner.ensures;
     } in
@@ -62,17 +56,16 @@ next_in_row-returns t' c =
     let t = c.args.table.now in
     let g = c.args.g in
     let j = c.args.middle in
-    let b = get_or c.b_connections.result.now j blank in
+    let b = c.connection-b.result in
     let xs = c.tuple-exits.result.now in
     let marks = c.args.marks.now in
     let inner = c.as_slice.result.now in
-    let long : length c.b_connections.result.now ≡ length (node_of t g).connections = sym (length-map c.b_connections.result.now (connection_of t.tuples)) ∙ ap length c.b_connections.ensures.shown in
     let turn : RowTurn t g j b xs marks inner = record {
       good = c.law.ensures.good;
       owned = c.requires.owned;
-      level = (c.b_connections.ensures.placed j blank (omega (arith, long, c.requires.middle))).0;
+      level = c.connection-b.ensures.level;
       middle = c.requires.middle;
-      connection = connection_read t g c.b_connections.result.now j blank c.b_connections.ensures.shown c.requires.middle;
+      connection = c.connection-b.ensures.connection;
       exits_are = c.tuple-exits.ensures;
       inner_are = c.as_slice.ensures.value ∙ c.in_ok-inner.ensures;
     } in

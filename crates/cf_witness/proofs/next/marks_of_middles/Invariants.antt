@@ -1,7 +1,7 @@
 use Rattle.std.proofs.Common.{◌≡◌, map, take}
-use Rattle.cf_table.specs.Groupings.{tuple_of}
+use Rattle.cf_table.specs.Groupings.{node_of}
 use Rattle.cf_witness.specs.Nexts.{has_marked}
 use Rattle.cf_witness.proofs.next.marks_of_middles.Given as goal
 
-abbrev pub invariant-loop-b : goal.invariant-loop-b
-invariant-loop-b l = l.middles.items ≡ map (λ b. has_marked l.marks (tuple_of l.table.tuples b.ret)) (take l.b-index l.b-items)
+abbrev pub invariant-loop-j : goal.invariant-loop-j
+invariant-loop-j l = l.middles.items ≡ map (λ b. has_marked l.marks b.returns) (take l.j (node_of l.table l.fn.g).connections)

@@ -1,0 +1,18 @@
+use Rattle.std.proofs.Common.{List, ℕ, subst, sym}
+use Rattle.cf_table.specs.declared.Gid.{Gid}
+use Rattle.cf_table.specs.declared.Classed.{Classed}
+use Rattle.cf_table.specs.Groupings.{Groupings, IsReduction}
+use Rattle.cf_table.specs.Kept.{shown_levels, HoldsReductions}
+use Rattle.cf_table.proofs.Reductions.{inserted}
+use Rattle.cf_table.proofs.Table.keep_reduction.Goals as goal
+
+pub invariant_of-self-2 : goal.invariant_of-self-2
+invariant_of-self-2 c =
+    let t = shown_levels c.self.inside.levels c.self.inside.book in
+    record {
+      groupings = c.self.invariant.groupings;
+      products = c.self.invariant.products;
+      reductions = subst (λ (es : List (Classed × Gid)). HoldsReductions t es) (sym c.in_ok-insert.ensures.entries)
+          (inserted t c.self.inside.reductions.entries (record { grouping = c.args.g; classes = c.in_ok-classes.classes }) c.args.h c.self.invariant.reductions
+          (subst (λ (cs : List ℕ). IsReduction t c.args.g cs c.args.h) (sym c.in_ok-classes.ensures.ok) (subst (λ (t : Groupings). IsReduction t.levels c.args.g c.args.classes.now c.args.h) (sym c.self.view_is) c.requires)));
+    }
