@@ -1,9 +1,11 @@
 #!/usr/bin/env python3
-"""Writes the script of a workload of the program: `parity 128`, `conjunctions 100` or `adder 32`.
+"""Writes the script of a workload of the program: `parity 128`, `conjunctions 100`, `adder 32`, `clauses 60` or `equality 32`.
 
 parity N: the parity of N variables by one call, its size and its first assignment.
 conjunctions N: N conjunctions of 24 literals each of 128 variables, literals drawn by a fixed generator, and `stats`.
 adder N: the sums and carries of two numbers of N bits, whose bits are interleaved, the least first, and `stats`.
+clauses N: the conjunction of N clauses of 3 literals each of 16 variables, drawn by the same generator, and its size.
+equality N: whether two numbers of N bits, interleaved, are equal, and its size.
 """
 import sys
 
@@ -19,23 +21,45 @@ def parity(n):
     yield "first p 1"
 
 
+class Generator:
+    """Draws numbers and literals, the same in each run."""
+
+    def __init__(self):
+        self.state = 1
+
+    def draw(self, below):
+        self.state = (self.state * 6364136223846793005 + 1442695040888963407) % 2**64
+        return (self.state >> 33) % below
+
+    def literals(self, count, variables):
+        chosen = list(range(variables))
+        for _ in range(count):
+            variable = chosen.pop(self.draw(len(chosen)))
+            yield f"@{variable}" if self.draw(2) else f"not(@{variable})"
+
+
 def conjunctions(n):
-    state = 1
-
-    def draw(below):
-        nonlocal state
-        state = (state * 6364136223846793005 + 1442695040888963407) % 2**64
-        return (state >> 33) % below
-
+    generator = Generator()
     yield "level 7"
     for number in range(n):
-        chosen = list(range(128))
-        literals = []
-        for _ in range(24):
-            variable = chosen.pop(draw(len(chosen)))
-            literals.append(f"@{variable}" if draw(2) else f"not(@{variable})")
-        yield f"let c{number} = and({','.join(literals)})"
+        yield f"let c{number} = and({','.join(generator.literals(24, 128))})"
     yield "stats"
+
+
+def clauses(n):
+    generator = Generator()
+    yield "level 4"
+    for number in range(n):
+        clause = f"or({','.join(generator.literals(3, 16))})"
+        yield f"let c = {clause}" if number == 0 else f"let c = and(c,{clause})"
+    yield "size c"
+
+
+def equality(n):
+    yield f"level {level(2 * n)}"
+    pairs = [f"not(xor(@{2 * i},@{2 * i + 1}))" for i in range(n)]
+    yield f"let e = and({','.join(pairs)})"
+    yield "size e"
 
 
 def adder(n):
@@ -51,7 +75,7 @@ def adder(n):
 
 
 if __name__ == "__main__":
-    if len(sys.argv) != 3 or sys.argv[1] not in ("parity", "conjunctions", "adder"):
+    if len(sys.argv) != 3 or sys.argv[1] not in ("parity", "conjunctions", "adder", "clauses", "equality"):
         sys.exit(__doc__)
     for line in globals()[sys.argv[1]](int(sys.argv[2])):
         print(line)

@@ -1,18 +1,19 @@
 #!/usr/bin/env bash
 # Runs each script of examples/, tests/edges/ and tests/refusals/ on the built program, and compares what it writes and
-# its status.
+# its status. A script has ten seconds.
 # NAME.cfl is the script, NAME.out what has to be written, and NAME.status the status where it isn't 0.
 set -u
 cd "$(dirname "${BASH_SOURCE[0]}")/.." || exit 1
 passed=0
 failed=0
 answer=$(mktemp)
+./cflobdd run </dev/null # builds the program where it isn't there
 trap 'rm -f "$answer"' EXIT
 for script in examples/*.cfl tests/edges/*.cfl tests/refusals/*.cfl; do
     name=${script%.cfl}
     wanted=0
     if [ -f "$name.status" ]; then wanted=$(cat "$name.status"); fi
-    ./cflobdd run <"$script" >"$answer"
+    timeout 10 ./cflobdd run <"$script" >"$answer"
     status=$?
     if [ "$status" = "$wanted" ] && cmp -s "$answer" "$name.out"; then
         passed=$((passed + 1))

@@ -1,7 +1,9 @@
 pub mod KeyLaws
 pub mod Words
 pub mod Joins
+pub mod Placing
 pub mod Turns
+pub mod Differing
 pub mod Loops
 pub mod Numbers
 pub mod PartLaws

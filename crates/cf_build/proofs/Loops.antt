@@ -1,19 +1,19 @@
-use Rattle.std.proofs.Common.{◌≡◌, ℕ, zero, suc, ◌<◌, ◌≤◌, ◌+◌, List, [], ◌∷◌, ◌++◌, map, refl, sym, ◌∙◌, ap, subst, length, take, get_or, arith, inl, inr}
+use Rattle.std.proofs.Common.{◌≡◌, ℕ, zero, suc, ◌<◌, ◌≤◌, ◌+◌, List, [], ◌∷◌, ◌++◌, map, refl, sym, ◌∙◌, ap, subst, length, length-append, take, get_or, arith, inl, inr}
 use Rattle.std.proofs.lemmas.Bool.{cases_lt}
 use Rattle.std.proofs.lemmas.List.{get_or_append_left, get_or_push, length_push, take_more, map_push}
 use Rattle.std.proofs.lemmas.List.Elements.{All-push}
 use Rattle.std.specs.List.{All}
-use Rattle.std.specs.declared.vec.Vec.{Vec}
 use Rattle.cf_model.specs.Diagrams.{Connection, no_connection, exit_at, connection_at, count, node, row, pattern, exits, all_returns, IsGood, Extends}
 use Rattle.cf_model.proofs.Growth.{Under, Under-width}
 use Rattle.cf_model.proofs.Growing.{pattern_kept, Extends-trans}
 use Rattle.cf_tuple.specs.Books.{Lengthens}
 use Rattle.cf_tuple.proofs.BookLaws.{Lengthens-trans}
-use Rattle.cf_table.specs.declared.Gid.{Gid}
 use Rattle.cf_table.specs.declared.BConn.{BConn}
 use Rattle.cf_table.specs.Groupings.{Groupings}
-use Rattle.cf_build.specs.Joining.{row_connection, classed_connection, IsThin, blank}
+use Rattle.cf_build.specs.declared.rows.Row.{Row}
+use Rattle.cf_build.specs.Joining.{AreInTurn, returning, row_connection, classed_connection, IsThin, blank}
 use Rattle.cf_build.specs.Parts.{HasThinned, AddsParts}
+use Rattle.cf_build.proofs.Placing.{in_turn_push, rows_kept, labels_last}
 use Rattle.cf_build.proofs.Turns.{IsThin-kept}
 use Rattle.cf_build.proofs.PartLaws.{rows_added}
 
@@ -45,13 +45,19 @@ within t (suc l) i pos j lj ret re n ne m d lm =
     let here : Under n ret = subst (λ (v : List ℕ). Under n v) (sym re) (returned_under n bs all j lj) in
     Under-at n ret here m d lm
 
-pub rows_more : {Z : Type 0} (cs : List ℕ) (rows after : List (Gid × Vec ℕ Z)) (r : Gid × Vec ℕ Z) (ns : List Connection) (i : ℕ)
-    → map row_connection rows ≡ map (classed_connection cs) (take i ns) → after ≡ rows ++ r ∷ [] → row_connection r ≡ classed_connection cs (connection_at ns i) → i < length ns
-    → map row_connection after ≡ map (classed_connection cs) (take (i + 1) ns)
-rows_more cs rows after r ns i h e q l =
-    ap (λ (v : List _). map row_connection v) e ∙ map_push row_connection rows r ∙ ap (λ (v : List Connection). v ++ row_connection r ∷ []) h ∙ ap (λ (c : Connection). map (classed_connection cs) (take i ns) ++ c ∷ []) q
-    ∙ sym (map_push (classed_connection cs) (take i ns) (connection_at ns i))
-    ∙ ap (λ (v : List Connection). map (classed_connection cs) v) (sym (take_more ns i no_connection l))
+-- one more row whose labels are classes
+pub rows_more : (cs xs ys all : List ℕ) (rows after : List Row) (r : Row) (ns : List Connection) (i : ℕ) → AreInTurn 0 rows (length xs) → map (row_connection xs) rows ≡ map (classed_connection cs) (take i ns)
+    → after ≡ rows ++ r ∷ [] → all ≡ xs ++ ys → r.start ≡ length xs → r.end ≡ length all → returning r.callee.at ys ≡ classed_connection cs (connection_at ns i) → i < length ns
+    → (map (row_connection all) after ≡ map (classed_connection cs) (take (i + 1) ns)) × AreInTurn 0 after (length all)
+rows_more cs xs ys all rows after r ns i turn h e more start end q l =
+    let long : r.end ≡ length xs + length ys = end ∙ ap length more ∙ length-append xs ys in
+    let last : row_connection (xs ++ ys) r ≡ classed_connection cs (connection_at ns i) = ap (λ (v : List ℕ). returning r.callee.at v) (labels_last xs ys r start long) ∙ q in (
+      ap (λ (v : List Row). map (row_connection all) v) e ∙ ap (λ (v : List ℕ). map (row_connection v) (rows ++ r ∷ [])) more ∙ map_push (row_connection (xs ++ ys)) rows r
+          ∙ ap (λ (v : List Connection). v ++ row_connection (xs ++ ys) r ∷ []) (rows_kept xs ys 0 rows turn ∙ h) ∙ ap (λ (c : Connection). map (classed_connection cs) (take i ns) ++ c ∷ []) last
+          ∙ sym (map_push (classed_connection cs) (take i ns) (connection_at ns i))
+          ∙ ap (λ (v : List Connection). map (classed_connection cs) v) (sym (take_more ns i no_connection l)),
+      subst (λ (v : List Row). AreInTurn 0 v (length all)) (sym e) (subst (λ (n : ℕ). AreInTurn 0 (rows ++ r ∷ []) n) end (in_turn_push 0 (length xs) rows r turn start (omega (arith, start, long)))),
+    )
 
 length_take : {A : Type 0} (xs : List A) (i : ℕ) → i ≤ length xs → length (take i xs) ≡ i
 length_take xs zero h = refl

@@ -1,19 +1,21 @@
-use Rattle.std.proofs.Common.{◌≡◌, ℕ, zero, suc, ◌<◌, ◌≤◌, ◌+◌, List, [], ◌∷◌, ◌++◌, map, refl, sym, ◌∙◌, ap, subst, length, take, drop, get_or, arith, length-append, nat_eq, ◌-◌, Some, Option}
-use Rattle.std.proofs.lemmas.List.{length-map, map-append, take_more, append-nil, append_assoc, map_push, length-take-le}
+use Rattle.std.proofs.Common.{◌≡◌, ℕ, zero, suc, max, ◌<◌, ◌≤◌, ◌+◌, List, [], ◌∷◌, ◌++◌, map, refl, sym, ◌∙◌, ap, subst, length, take, get_or, arith, length-append, nat_eq, ◌-◌, Some, Option}
+use Rattle.std.proofs.lemmas.List.{length-map, map-append, take_more, append-nil, append_assoc, map_push}
 use Rattle.std.proofs.lemmas.List.Concat.{flat_map_single}
 use Rattle.std.specs.List.{flat_map, slice_get, All}
 use Rattle.std.specs.declared.vec.Vec.{Vec}
 use Rattle.cf_model.specs.Renumbering.{width, Grows, IsCanon, rgs}
 use Rattle.cf_model.proofs.RenumberingLaws.{canon_length, nat_decides, map_map}
 use Rattle.cf_model.specs.Diagrams.{Levels, Node, Connection, no_connection, exit_at, connection_at, count, row, spell, exits, all_returns}
-use Rattle.cf_model.proofs.Growth.{carried, Under, Under-width}
+use Rattle.cf_model.proofs.Growth.{carried, width-append, Grows-append, Under, Under-width}
 use Rattle.cf_model.proofs.Canonicity.{GoodLevel}
 use Rattle.cf_model.proofs.CanonLaws.{map_under, canon_is}
 use Rattle.cf_table.specs.declared.Gid.{Gid}
 use Rattle.cf_build.specs.Assembling.{classed, row_of, IsRow, label_at, row_labels, labels_over}
-use Rattle.cf_build.specs.Joining.{IsLooseNode, row_connection, loose_node, frame}
+use Rattle.cf_build.specs.declared.rows.Row.{Row}
+use Rattle.cf_build.specs.Joining.{IsLooseNode, AreInTurn, row_connection, loose_node, frame, row_frame, AreNumbered}
 use Rattle.cf_build.proofs.Words.{read_carries}
 use Rattle.cf_build.proofs.Joins.{flat_map_under, map_words, made}
+use Rattle.cf_build.proofs.Placing.{frame_conn, frame_places, framed, in_turn_push, returns_flat}
 
 -- one place of a canon
 spelled_at : {A : Type 0} (all : List A) (p : List ℕ) (ds : List A) → map (slice_get ds) p ≡ map Some all → (i : ℕ) → i < length p → (d : A) → slice_get ds (get_or p i 0) ≡ Some (get_or all i d)
@@ -41,6 +43,15 @@ classed_canon classes ranks ds p c gp full =
 pub classed_rgs : (classes ranks ds p : List ℕ) → IsCanon classes ranks ds → Grows 0 p → width 0 p ≡ length classes → classed ranks p ≡ rgs nat_eq (classed classes p)
 classed_rgs classes ranks ds p c gp full = (canon_is nat_eq nat_decides (classed classes p) (classed ranks p) ds (classed_canon classes ranks ds p c gp full)).0
 
+-- one more number, that is known or the next
+pub grows_more : (xs : List ℕ) (i next now : ℕ) → i < length xs → Grows 0 (take i xs) → width 0 (take i xs) ≡ next → get_or xs i 0 ≤ next → now ≡ max next (suc (get_or xs i 0)) → Grows 0 (take (i + 1) xs) × (width 0 (take (i + 1) xs) ≡ now)
+grows_more xs i next now l g w le e =
+    let x = get_or xs i 0 in
+    let more : take (i + 1) xs ≡ take i xs ++ x ∷ [] = take_more xs i 0 l in (
+      subst (λ (v : List ℕ). Grows 0 v) (sym more) (Grows-append 0 (take i xs) (x ∷ []) g (omega (arith, le, w), tt)),
+      ap (λ (v : List ℕ). width 0 v) more ∙ width-append 0 (take i xs) (x ∷ []) ∙ ap (λ (n : ℕ). max n (suc x)) w ∙ sym e,
+    )
+
 -- equal lists cut at one place
 cut : {A : Type 0} (xs ys us vs : List A) → length xs ≡ length us → xs ++ ys ≡ us ++ vs → (xs ≡ us) × (ys ≡ vs)
 cut [] ys [] vs h e = (refl, e)
@@ -55,14 +66,8 @@ cut (x ∷ xs) ys (u ∷ us) vs h e =
     ((let k : x ∷ xs ≡ u ∷ us = cc in k), r.1)
 
 -- numbered rows have the groupings and the lengths of the rows
-abbrev frame_conn : Connection → ℕ × ℕ
-frame_conn c = (c.callee, length c.returns)
-
 abbrev frame_row : {A : Type 0} → ℕ × List A → ℕ × ℕ
 frame_row r = (r.0, length r.1)
-
-abbrev frame_places : Gid × ℕ → ℕ × ℕ
-frame_places f = (f.0.at, f.1)
 
 abbrev Shaped : {A : Type 0} → List Connection → List (ℕ × List A) → Type 0
 Shaped ns rs = map frame_conn ns ≡ map frame_row rs
@@ -141,33 +146,32 @@ numbered_canon c n e p u a ns rs ranks ds g shape flat canon =
     }
 
 -- from the rows of `assemble` to connections
-pub shaped_rows : {A Z Y : Type 0} (rows : List (Gid × Vec A Z)) (numbered : List (Gid × Vec ℕ Y)) → map frame numbered ≡ map frame rows → Shaped (map row_connection numbered) (map row_of rows)
-shaped_rows rows numbered h =
-    map_map frame_conn row_connection numbered
-    ∙ sym (map_map frame_places frame numbered) ∙ ap (λ (v : List (Gid × ℕ)). map frame_places v) h ∙ map_map frame_places frame rows
+pub shaped_rows : {A Z : Type 0} (rows : List (Gid × Vec A Z)) (placed : List Row) (ranks : List ℕ) → map row_frame placed ≡ map frame rows → AreInTurn 0 placed (length ranks) → Shaped (map (row_connection ranks) placed) (map row_of rows)
+shaped_rows rows placed ranks h turn =
+    framed ranks 0 placed turn ∙ ap (λ (v : List (Gid × ℕ)). map frame_places v) h ∙ map_map frame_places frame rows
     ∙ sym (map_map frame_row row_of rows)
 
-pub numbered_levels : {A Z Y : Type 0} (t : Levels) (l : ℕ) (rows : List (Gid × Vec A Z)) (numbered : List (Gid × Vec ℕ Y)) → map frame numbered ≡ map frame rows → All (IsRow t l) rows
-    → (k : ℕ) (d : Gid × Vec ℕ Y) → k < length numbered → (get_or numbered k d).0.level ≡ l
-numbered_levels t l rows [] h all k d lk = absurd (omega (arith, lk))
-numbered_levels t l [] (n ∷ numbered) h all k d lk = cc
-numbered_levels t l (r ∷ rows) (n ∷ numbered) h all zero d lk =
-    let p : frame n ≡ frame r = cc in
+pub placed_levels : {A Z : Type 0} (t : Levels) (l : ℕ) (rows : List (Gid × Vec A Z)) (placed : List Row) → map row_frame placed ≡ map frame rows → All (IsRow t l) rows
+    → (k : ℕ) (d : Row) → k < length placed → (get_or placed k d).callee.level ≡ l
+placed_levels t l rows [] h all k d lk = absurd (omega (arith, lk))
+placed_levels t l [] (n ∷ placed) h all k d lk = cc
+placed_levels t l (r ∷ rows) (n ∷ placed) h all zero d lk =
+    let p : row_frame n ≡ frame r = cc in
     ap (λ q. q.0.level) p ∙ (all 0 r (omega arith)).level
-numbered_levels t l (r ∷ rows) (n ∷ numbered) h all (suc k) d lk =
-    let rest : map frame numbered ≡ map frame rows = cc in
-    numbered_levels t l rows numbered rest (λ i e li. all (suc i) e (omega (arith, li))) k d (omega (arith, lk))
+placed_levels t l (r ∷ rows) (n ∷ placed) h all (suc k) d lk =
+    let rest : map row_frame placed ≡ map frame rows = cc in
+    placed_levels t l rows placed rest (λ i e li. all (suc i) e (omega (arith, li))) k d (omega (arith, lk))
 
 row_at : {A Z : Type 0} (t : Levels) (l : ℕ) (rows : List (Gid × Vec A Z)) → All (IsRow t l) rows → (j : ℕ) → j < length rows → ((get_or (map row_of rows) j (0, [])).0 < count t l) × (length (get_or (map row_of rows) j (0, [])).1 ≡ exits t l (get_or (map row_of rows) j (0, [])).0)
 row_at t l [] all j lj = absurd (omega (arith, lj))
 row_at t l (r ∷ rows) all zero lj = let h = all 0 r (omega arith) in (h.owned, h.labelled)
 row_at t l (r ∷ rows) all (suc j) lj = row_at t l rows (λ i e li. all (suc i) e (omega (arith, li))) j (omega (arith, lj))
 
-pub numbered_loose : {A Z Y : Type 0} (t : Levels) (l a : ℕ) (rows : List (Gid × Vec A Z)) (numbered : List (Gid × Vec ℕ Y)) (ranks : List ℕ) → a < count t l → length rows ≡ exits t l a → All (IsRow t l) rows
-    → map frame numbered ≡ map frame rows → all_returns (map row_connection numbered) ≡ ranks → Grows 0 ranks → IsLooseNode (count t l) (exits t l) (loose_node a numbered)
-numbered_loose t l a rows numbered ranks own middles all shape flat grow =
-    let s = shaped_rows rows numbered shape in
-    let ns = map row_connection numbered in
+pub placed_loose : {A Z : Type 0} (t : Levels) (l a : ℕ) (rows : List (Gid × Vec A Z)) (placed : List Row) (ranks : List ℕ) → a < count t l → length rows ≡ exits t l a → All (IsRow t l) rows
+    → map row_frame placed ≡ map frame rows → AreInTurn 0 placed (length ranks) → Grows 0 ranks → IsLooseNode (count t l) (exits t l) (loose_node a placed ranks)
+placed_loose t l a rows placed ranks own middles all shape turn grow =
+    let s = shaped_rows rows placed ranks shape turn in
+    let ns = map (row_connection ranks) placed in
     let long : length ns ≡ length rows = shaped_long ns (map row_of rows) s ∙ length-map rows row_of in
     record {
       callee_exists = own;
@@ -175,43 +179,37 @@ numbered_loose t l a rows numbered ranks own middles all shape flat grow =
       loose_connections = λ j lj. (let at = shaped_at ns (map row_of rows) s j lj in
           let r = row_at t l rows all j (omega (arith, lj, long)) in
           record { callee_exists = omega (arith, at.0, r.0); entries = at.1 ∙ r.1 ∙ ap (λ (k : ℕ). exits t l k) (sym at.0) });
-      first_reach = subst (λ (v : List ℕ). Grows 0 v) (sym flat) grow;
+      first_reach = subst (λ (v : List ℕ). Grows 0 v) (sym (returns_flat ranks placed turn)) grow;
     }
 
--- the loop over the rows
-pub flat_len : {X A : Type 0} (f : X → List A) (xs : List X) (i : ℕ) (x : X) (start end : ℕ) → i < length xs → x ≡ get_or xs i x → start ≡ length (flat_map f (take i xs)) → end ≡ start + length (f x) → end ≡ length (flat_map f (take (i + 1) xs))
-flat_len f xs i x start end h e s q =
-    let more : flat_map f (take (i + 1) xs) ≡ flat_map f (take i xs) ++ f (get_or xs i x) = ap (λ (v : List _). flat_map f v) (take_more xs i x h) ∙ flat_map_push f (take i xs) (get_or xs i x) in
-    omega (arith, ap length more, length-append (flat_map f (take i xs)) (f (get_or xs i x)), ap (λ (y : _). length (f y)) e, s, q)
+-- no row was read
+pub numbered_none : {A Z : Type 0} (rows : List Row) (ranks : List ℕ) (different : List A) → rows ≡ [] → IsCanon [] ranks different → AreNumbered {Z = Z} [] rows ranks different
+numbered_none rows ranks different e c = record {
+  canon = c;
+  frames = ap (λ (v : List Row). map row_frame v) e;
+  in_turn = subst (λ (v : List Row). AreInTurn 0 v (length ranks)) (sym e) (sym (canon_length [] ranks different c));
+}
+
+-- one more row, once its labels were read
+pub numbered_more : {A Z : Type 0} (given : List (Gid × Vec A Z)) (rows after : List Row) (ranks now : List ℕ) (before different : List A) (row : Gid × Vec A Z) (r : Row) (i : ℕ) → i < length given → row ≡ get_or given i row
+    → AreNumbered (take i given) rows ranks before → ((all : List A) → IsCanon all ranks before → IsCanon (all ++ row.1.items) now different)
+    → after ≡ rows ++ r ∷ [] → r.callee ≡ row.0 → r.start ≡ length ranks → r.end ≡ length now → AreNumbered (take (i + 1) given) after now different
+numbered_more {A} {Z} given rows after ranks now before different row r i l is h read e callee start end =
+    let labels : Gid × Vec A Z → List A = λ r. r.1.items in
+    let more : take (i + 1) given ≡ take i given ++ row ∷ [] = take_more given i row l ∙ ap (λ (x : Gid × Vec A Z). take i given ++ x ∷ []) (sym is) in
+    let canon : IsCanon (flat_map labels (take i given) ++ row.1.items) now different = read (flat_map labels (take i given)) h.canon in
+    let flat : flat_map labels (take i given) ++ row.1.items ≡ flat_map labels (take (i + 1) given) = sym (flat_map_push labels (take i given) row) ∙ ap (λ (v : List (Gid × Vec A Z)). flat_map labels v) (sym more) in
+    let long : length now ≡ length ranks + length row.1.items =
+    omega (arith, canon_length (flat_map labels (take i given) ++ row.1.items) now different canon, canon_length (flat_map labels (take i given)) ranks before h.canon, length-append (flat_map labels (take i given)) row.1.items) in
+    let width : r.end - r.start ≡ length row.1.items = omega (arith, end, long, start) in
+    record {
+      canon = subst (λ (v : List A). IsCanon v now different) flat canon;
+      frames = ap (λ (v : List Row). map row_frame v) e ∙ map_push row_frame rows r ∙ ap (λ (v : List (Gid × ℕ)). v ++ row_frame r ∷ []) h.frames
+          ∙ ap (λ (f : Gid × ℕ). map frame (take i given) ++ f ∷ []) (ap (λ (g : Gid). (g, r.end - r.start)) callee ∙ ap (λ (n : ℕ). (row.0, n)) width)
+          ∙ sym (map_push frame (take i given) row) ∙ ap (λ (v : List (Gid × Vec A Z)). map frame v) (sym more);
+      in_turn = subst (λ (v : List Row). AreInTurn 0 v (length now)) (sym e) (subst (λ (n : ℕ). AreInTurn 0 (rows ++ r ∷ []) n) end (in_turn_push 0 (length ranks) rows r h.in_turn start (omega (arith, start, end, long))));
+    }
   where
-    flat_map_push : {X A : Type 0} (f : X → List A) (xs : List X) (y : X) → flat_map f (xs ++ y ∷ []) ≡ flat_map f xs ++ f y
+    flat_map_push : {X B : Type 0} (f : X → List B) (xs : List X) (y : X) → flat_map f (xs ++ y ∷ []) ≡ flat_map f xs ++ f y
     flat_map_push f [] y = append-nil (f y)
     flat_map_push f (x ∷ xs) y = ap (λ (v : List _). f x ++ v) (flat_map_push f xs y) ∙ sym (append_assoc (f x) (flat_map f xs) (f y))
-
-pub flat_more : {X : Type 0} (f : X → List ℕ) (xs ys : List X) (y : X) (before after : List ℕ) → ys ≡ xs ++ y ∷ [] → flat_map f xs ≡ before → before ++ f y ≡ after → flat_map f ys ≡ after
-flat_more f xs ys y before after e h q =
-    ap (λ (v : List _). flat_map f v) e ∙ flat_map_push f xs y ∙ ap (λ (v : List ℕ). v ++ f y) h ∙ q
-  where
-    flat_map_push : {X : Type 0} (f : X → List ℕ) (xs : List X) (y : X) → flat_map f (xs ++ y ∷ []) ≡ flat_map f xs ++ f y
-    flat_map_push f [] y = append-nil (f y)
-    flat_map_push f (x ∷ xs) y = ap (λ (v : List _). f x ++ v) (flat_map_push f xs y) ∙ sym (append_assoc (f x) (flat_map f xs) (f y))
-
-pub framed_more : {A Z Y : Type 0} (rows : List (Gid × Vec A Z)) (xs ys : List (Gid × Vec ℕ Y)) (r : Gid × Vec A Z) (labels : Vec ℕ Y) (i start end : ℕ) (ranks : List ℕ) → i < length rows → r ≡ get_or rows i r → ys ≡ xs ++ (r.0, labels) ∷ []
-    → map frame xs ≡ map frame (take i rows) → take start ranks ++ labels.items ≡ take end ranks → end ≡ start + length r.1.items → end ≤ length ranks → map frame ys ≡ map frame (take (i + 1) rows)
-framed_more rows xs ys r labels i start end ranks h e q m p en le =
-    let long : length labels.items ≡ length r.1.items = omega (arith, ap length p, length-append (take start ranks) labels.items, length-take-le start ranks (omega (arith, en, le)), length-take-le end ranks le, en) in
-    let top : frame (r.0, labels) ≡ frame (get_or rows i r) = ap (λ (n : ℕ). (r.0, n)) long ∙ ap frame e in
-    ap (λ (v : List _). map frame v) q ∙ map_push frame xs (r.0, labels) ∙ ap (λ (v : List (Gid × ℕ)). v ++ frame (r.0, labels) ∷ []) m
-    ∙ ap (λ (f : Gid × ℕ). map frame (take i rows) ++ f ∷ []) top ∙ sym (map_push frame (take i rows) (get_or rows i r)) ∙ ap (λ (v : List _). map frame v) (sym (take_more rows i r h))
-
-take_none : (d : ℕ) → take {A = ℕ} d [] ≡ []
-take_none zero = refl
-take_none (suc d) = refl
-
-take_part : (xs : List ℕ) (i d : ℕ) → take i xs ++ take d (drop i xs) ≡ take (i + d) xs
-take_part xs zero d = ap (λ (k : ℕ). take k xs) (let e : d ≡ 0 + d = omega arith in e)
-take_part [] (suc i) d = take_none d ∙ sym (take_none (suc i + d))
-take_part (x ∷ xs) (suc i) d = ap (λ (v : List ℕ). x ∷ v) (take_part xs i d) ∙ ap (λ (k : ℕ). take k (x ∷ xs)) (let e : suc (i + d) ≡ suc i + d = omega arith in e)
-
-pub parted : (xs v : List ℕ) (i j : ℕ) → i ≤ j → v ≡ take (j - i) (drop i xs) → take i xs ++ v ≡ take j xs
-parted xs v i j h e = ap (λ (w : List ℕ). take i xs ++ w) e ∙ take_part xs i (j - i) ∙ ap (λ (k : ℕ). take k xs) (let q : i + (j - i) ≡ j = omega (arith, h) in q)

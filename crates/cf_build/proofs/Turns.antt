@@ -1,5 +1,5 @@
-use Rattle.std.proofs.Common.{◌≡◌, ℕ, suc, ◌<◌, ◌+◌, List, [], ◌∷◌, map, refl, sym, ◌∙◌, ap, subst, length, get_or, arith, Some, Result, Ok, Err, IfOk, add-one}
-use Rattle.std.proofs.lemmas.List.{length-map, get_or-map}
+use Rattle.std.proofs.Common.{◌≡◌, ℕ, suc, ◌<◌, ◌≤◌, ◌+◌, List, [], ◌∷◌, map, refl, sym, ◌∙◌, ap, subst, length, get_or, arith, Some, Result, Ok, Err, IfOk, add-one}
+use Rattle.std.proofs.lemmas.List.{length-map, get_or-map, get_or_default}
 use Rattle.std.proofs.lemmas.Option.{slice_get-get_or, slice_get_within, get_or_from_slice_get}
 use Rattle.cf_model.specs.Renumbering.{width, Grows, IsApart, IsCanon, AllDiffer}
 use Rattle.cf_model.proofs.RenumberingLaws.{canon_length, map_map}
@@ -12,7 +12,7 @@ use Rattle.cf_tuple.specs.Books.{Lengthens, IsInterned as IsInternedTuple}
 use Rattle.cf_tuple.proofs.BookLaws.{kept_at}
 use Rattle.cf_table.specs.declared.Gid.{Gid}
 use Rattle.cf_table.specs.declared.BConn.{BConn}
-use Rattle.cf_table.specs.Groupings.{Groupings, connection_of, node_with, IsInterned}
+use Rattle.cf_table.specs.Groupings.{Groupings, connection_of, node_with, IsInterned, IsInternable}
 use Rattle.cf_table.proofs.Told.{same_conn}
 use Rattle.cf_build.specs.Assembling.{classed, Stands}
 use Rattle.cf_build.specs.Joining.{IsLooseNode, returning, classed_connection, IsThin, AreThin, blank}
@@ -133,6 +133,17 @@ joining_good t s u l d all bs classes a h =
 pub joining_spell : (t s u : Groupings) (l : ℕ) (d : Node) (all bs : List BConn) (classes : List ℕ) (a : ℕ) → Joining t s u l d all bs classes a → spell (pattern u.levels l) (node_with u.tuples a bs) ≡ spell (pattern t.levels l) d
 joining_spell t s u l d all bs classes a h =
     ready_spell (count t.levels l) (count u.levels l) (points l) (exits t.levels l) (exits u.levels l) (pattern t.levels l) (pattern u.levels l) d (map (connection_of u.tuples) all) (map (connection_of u.tuples) bs) classes a (joining t s u l d all bs classes a h)
+
+-- so the node may be interned
+pub internable : (t s u : Groupings) (l : ℕ) (d : Node) (all bs : List BConn) (classes : List ℕ) (a : Gid) → Joining t s u l d all bs classes a.at → a.level ≡ l → l ≤ 6 → IsInternable u a bs
+internable t s u l d all bs classes a h e six = record {
+  level = omega (arith, e, six);
+  connections = λ k b lk.
+      (let f = joining_fit t s u l d all bs classes a.at h k lk in
+      let at = get_or_default bs k b blank lk in
+      record { level = ap (λ (b : BConn). b.«to».level) at ∙ f.level ∙ sym e; tuple = omega (arith, ap (λ (b : BConn). b.ret.at) at, f.listed) });
+  good = subst (λ (m : ℕ). IsGoodNode (count u.levels m) (exits u.levels m) (node_with u.tuples a.at bs)) (sym e) (joining_good t s u l d all bs classes a.at h);
+}
 
 -- the grouping that was interned spells the loose_node node
 pub joined : (t s u v : Groupings) (l : ℕ) (d : Node) (all bs : List BConn) (classes : List ℕ) (a : ℕ) → Joining t s u l d all bs classes a → Extends u.levels v.levels

@@ -1,10 +1,11 @@
-use Rattle.std.specs.Prelude.{◌≡◌, ℕ, ◌<◌, List, map, length, slice_index_or as get_or}
+use Rattle.std.specs.Prelude.{◌≡◌, ℕ, ◌<◌, ◌≤◌, ◌-◌, List, [], ◌∷◌, map, length, take, drop, flat_map, slice_index_or as get_or}
 use Rattle.std.specs.declared.vec.Vec.{Vec}
-use Rattle.cf_model.specs.Renumbering.{width, Grows}
+use Rattle.cf_model.specs.Renumbering.{width, Grows, IsCanon}
 use Rattle.cf_model.specs.Diagrams.{Node, Connection, connection_at, count, exits, pattern, row, all_returns, IsGoodConnection}
 use Rattle.cf_table.specs.declared.Gid.{Gid}
 use Rattle.cf_table.specs.declared.BConn.{BConn}
 use Rattle.cf_table.specs.Groupings.{Groupings, connection_of}
+use Rattle.cf_build.specs.declared.rows.Row.{Row}
 use Rattle.cf_build.specs.Assembling.{classed}
 
 -- A B-connection that need not be good, since an entry may stand twice in its return tuple.
@@ -24,13 +25,26 @@ pub record IsLooseNode (c : ℕ) (e : ℕ → ℕ) (n : Node) : Type 0 where
 abbrev pub returning : ℕ → List ℕ → Connection
 returning callee exits = record { callee = callee; returns = exits }
 
+-- the row whose numbers are all 0
+abbrev pub blank_row : Row
+blank_row = record { callee = record { level = 0; at = 0 }; start = 0; end = 0 }
+
+-- the labels of a row, out of those of all rows
+abbrev pub labels_in : {A : Type 0} → List A → Row → List A
+labels_in labels r = take (r.end - r.start) (drop r.start labels)
+
+-- The labels of the rows stand one row after another, from one place of the list to another.
+abbrev pub AreInTurn : ℕ → List Row → ℕ → Type 0
+AreInTurn start [] end = start ≡ end
+AreInTurn start (r ∷ rows) end = (r.start ≡ start) × (r.start ≤ r.end) × AreInTurn r.end rows end
+
 -- a row whose labels are exits, as a B-connection
-abbrev pub row_connection : {Z : Type 0} → Gid × Vec ℕ Z → Connection
-row_connection r = returning r.0.at r.1.items
+abbrev pub row_connection : List ℕ → Row → Connection
+row_connection labels r = returning r.callee.at (labels_in labels r)
 
 -- an A-callee with such rows, as a node
-abbrev pub loose_node : {Z : Type 0} → ℕ → List (Gid × Vec ℕ Z) → Node
-loose_node a rows = record { a_callee = a; connections = map row_connection rows }
+abbrev pub loose_node : ℕ → List Row → List ℕ → Node
+loose_node a rows labels = record { a_callee = a; connections = map (row_connection labels) rows }
 
 -- a B-connection with each exit replaced by its class
 abbrev pub classed_connection : List ℕ → Connection → Connection
@@ -57,3 +71,14 @@ pub record AreThin (t : Groupings) (l : ℕ) (patterns : ℕ → List ℕ) (loos
 -- a row's grouping, and how many labels it has
 abbrev pub frame : {A Z : Type 0} → Gid × Vec A Z → Gid × ℕ
 frame r = (r.0, length r.1.items)
+
+-- the same of a row whose labels stand in a list
+abbrev pub row_frame : Row → Gid × ℕ
+row_frame r = (r.callee, r.end - r.start)
+
+-- The rows have the groupings of the given rows, and the ranks of their labels, which stand in turn in one list. The
+-- ranks and the different labels are the canon of all labels, row after row.
+pub record AreNumbered {A Z : Type 0} (given : List (Gid × Vec A Z)) (rows : List Row) (ranks : List ℕ) (different : List A) : Type 0 where
+  pub canon : IsCanon (flat_map (λ r. r.1.items) given) ranks different
+  pub frames : map row_frame rows ≡ map frame given
+  pub in_turn : AreInTurn 0 rows (length ranks)

@@ -1,17 +1,13 @@
 //! Labels, told apart by their keys, and their ranks of first appearance.
 
-ghost use Rattle.std.specs.Prelude.{◌≡◌, List, ℕ, All, Some, not, slice_get, IfOk, OnOk, MatchOption};
-ghost use Rattle.std.specs.List.{list_any};
-ghost use Rattle.indexmap.specs.IndexSet.{insert_key};
-ghost use Rattle.cf_model.specs.Patterns.{same_ranks};
+ghost use Rattle.std.specs.Prelude.{◌≡◌, List, ℕ, All, Some, slice_get, IfOk, IsTrue, MatchOption};
 ghost use Rattle.cf_model.specs.Values.{Fits};
-ghost use Rattle.cf_model.specs.Renumbering.{IsCanon, IsNew};
+ghost use Rattle.cf_model.specs.Renumbering.{AllDiffer, IsCanon, IsNew};
 ghost use Rattle.cf_build.specs.Keys.{IsWord, word_key, IsPair, pair_key, IsTriple, triple_key, value_key, IsConnection, connection_key, word_keys_differ, pair_keys_differ, triple_keys_differ, value_keys_differ, connection_keys_differ};
 
+use super::numbering::Numbering;
 use cf_table::BConn;
 use cf_tuple::NoMemory;
-use indexmap::IndexSet;
-use smallvec::SmallVec;
 use std::alloc::Global;
 
 /// What may be assembled: a value whose key tells it from others.
@@ -97,65 +93,35 @@ impl Label for BConn {
 }
 
 /// So many labels at most are searched plainly, and more by hashing.
-const FEW: usize = 16;
+pub(crate) const FEW: usize = 16;
 
-fn place_of_key(keys: &[[u64; 3]], key: [u64; 3]) -> Option<usize>
-    ensures { MatchOption result (IsNew keys.now key) (λ i. slice_get keys.now i ≡ Some key) }
+/// The place of a label, found by comparing keys.
+pub(crate) fn place_of<T: Label>(labels: &[T], label: T) -> Option<usize>
+    ensures label { T.is_label label }
+    ensures place { MatchOption result (IsNew labels.now label) (λ i. slice_get labels.now i ≡ Some label) }
 {
-    for i in 0..keys.len() {
-        if keys[i] == key {
+    let key = label.key();
+    for i in 0..labels.len() {
+        if labels[i].key() == key {
             return Some(i);
         }
     }
     None
 }
 
-/// The place of a key, which is added if the list hasn't it, and whether it was added.
-fn enter_key(keys: &mut SmallVec<[u64; 3], 16>, key: [u64; 3]) -> Result<(usize, bool), NoMemory>
-    ensures keys { OnOk result (keys.new.items ≡ insert_key same_ranks keys.old.items key) }
-    ensures stored { IfOk result (λ r. slice_get keys.new.items r.0 ≡ Some key) }
-    ensures added { IfOk result (λ r. r.1 ≡ not (list_any (same_ranks key) keys.old.items)) }
+/// Whether the list is short and its labels all differ.
+pub(crate) fn are_few_and_differ<T: Label>(labels: &[T]) -> bool
+    ensures { IsTrue result → AllDiffer labels.now }
 {
-    if let Some(at) = place_of_key(keys.as_slice(), key) {
-        return Ok((at, false));
+    if labels.len() > FEW {
+        return false;
     }
-    let at = keys.len();
-    keys.push(key)?;
-    Ok((at, true))
-}
-
-fn canon_of_few<T: Label>(alloc: Global, labels: &[T]) -> Result<(Vec<u64>, Vec<T>), NoMemory>
-    ensures canon { IfOk result (λ r. IsCanon labels.now r.0.items r.1.items) }
-    ensures labels { IfOk result (λ r. All T.is_label r.1.items) }
-{
-    let mut keys = SmallVec::new(alloc);
-    let mut ranks = Vec::with_capacity(alloc, labels.len())?;
-    let mut different = Vec::new(alloc);
-    for &label in labels {
-        let (rank, is_new) = enter_key(&mut keys, label.key())?;
-        ranks.push(rank as u64)?;
-        if is_new {
-            different.push(label)?;
+    for i in 0..labels.len() {
+        if let Some(_) = place_of(&labels[..i], labels[i]) {
+            return false;
         }
     }
-    Ok((ranks, different))
-}
-
-fn canon_of_many<T: Label>(alloc: Global, labels: &[T]) -> Result<(Vec<u64>, Vec<T>), NoMemory>
-    ensures canon { IfOk result (λ r. IsCanon labels.now r.0.items r.1.items) }
-    ensures labels { IfOk result (λ r. All T.is_label r.1.items) }
-{
-    let mut keys = IndexSet::new(alloc);
-    let mut ranks = Vec::with_capacity(alloc, labels.len())?;
-    let mut different = Vec::new(alloc);
-    for &label in labels {
-        let (rank, is_new) = keys.insert_full(label.key())?;
-        ranks.push(rank as u64)?;
-        if is_new {
-            different.push(label)?;
-        }
-    }
-    Ok((ranks, different))
+    true
 }
 
 /// The rank of first appearance of each label, and the different labels in that order, each of
@@ -164,9 +130,12 @@ pub fn canon_of<T: Label>(alloc: Global, labels: &[T]) -> Result<(Vec<u64>, Vec<
     ensures canon { IfOk result (λ r. IsCanon labels.now r.0.items r.1.items) }
     ensures labels { IfOk result (λ r. All T.is_label r.1.items) }
 {
-    if labels.len() <= FEW {
-        canon_of_few(alloc, labels)
-    } else {
-        canon_of_many(alloc, labels)
-    }
+    let mut numbering = Numbering::new(alloc, labels.len())?;
+    numbering.read(labels)?;
+    let Numbering {
+        ranks,
+        different,
+        keys: _,
+    } = numbering;
+    Ok((ranks, different))
 }

@@ -3,10 +3,11 @@
 
 mod label;
 mod merge;
+mod numbering;
 mod rows;
 
-ghost use Rattle.std.specs.Prelude.{◌≡◌, ◌≤◌, suc, length, map, nat_eq, All, IfOk};
-ghost use Rattle.cf_model.specs.Renumbering.{rgs};
+ghost use Rattle.std.specs.Prelude.{◌≡◌, ◌≤◌, suc, length, map, nat_eq, All, IfOk, IsTrue};
+ghost use Rattle.cf_model.specs.Renumbering.{Grows, rgs};
 ghost use Rattle.cf_model.specs.Patterns.{sub};
 ghost use Rattle.cf_model.specs.Diagrams.{pattern, IsGood, Extends, HasPatterns};
 ghost use Rattle.cf_tuple.specs.Books.{Lengthens};
@@ -17,16 +18,38 @@ use cf_table::{Gid, Table};
 use cf_tuple::NoMemory;
 pub use label::{Label, canon_of};
 use merge::{join, merge};
-use rows::{all_labels, numbered_rows};
+use rows::{Numbered, numbered_rows};
 use std::alloc::Global;
 
-/// The grouping whose pattern is g's with each exit replaced by its class, renumbered. There is
-/// one class for each exit of g.
-pub fn reduce(alloc: Global, table: &mut Table, g: Gid, classes: &[u64]) -> Result<Gid, NoMemory>
+/// Whether each class is known or the next number.
+fn are_numbered(classes: &[u64]) -> bool
+    ensures { IsTrue result → Grows 0 classes.now }
+{
+    let mut next = 0;
+    for i in 0..classes.len() {
+        if classes[i] > next {
+            return false;
+        }
+        next = next.max(classes[i] + 1);
+    }
+    true
+}
+
+/// The grouping with each exit of g replaced by its class. The classes are numbered by first
+/// appearance.
+fn reduce_numbered(
+    alloc: Global,
+    table: &mut Table,
+    g: Gid,
+    classes: &[u64],
+) -> Result<Gid, NoMemory>
     requires owned { Owns table.old g }
     requires entries { length classes.now ≡ exits_of table.old g }
-    ensures reduced { IfOk result (λ h. Stands table.new.levels h g.level (rgs nat_eq (classed classes.now (pattern_of table.old g)))) }
-    ensures added { IfOk result (λ h. AddsOnly table.old.levels table.new.levels (sub h.level (pattern_of table.new h))) }
+    requires grows { Grows 0 classes.now }
+    ensures reduced { IfOk result (λ h.
+        Stands table.new.levels h g.level (classed classes.now (pattern_of table.old g))) }
+    ensures added { IfOk result (λ h.
+        AddsOnly table.old.levels table.new.levels (sub h.level (pattern_of table.new h))) }
     ensures parts { IfOk result (λ h. HasPatterns table.new.levels (sub h.level (pattern_of table.new h))) }
     ensures good { IsGood table.new.levels }
     ensures kept { Extends table.old.levels table.new.levels }
@@ -35,8 +58,30 @@ pub fn reduce(alloc: Global, table: &mut Table, g: Gid, classes: &[u64]) -> Resu
     ensures products { table.new.products ≡ table.old.products }
 {
     table.law();
+    merge(alloc, table, g, classes)
+}
+
+/// The grouping whose pattern is g's with each exit replaced by its class, renumbered. There is
+/// one class for each exit of g.
+pub fn reduce(alloc: Global, table: &mut Table, g: Gid, classes: &[u64]) -> Result<Gid, NoMemory>
+    requires owned { Owns table.old g }
+    requires entries { length classes.now ≡ exits_of table.old g }
+    ensures reduced { IfOk result (λ h. Stands table.new.levels h g.level (rgs nat_eq (classed classes.now (pattern_of table.old g)))) }
+    ensures added { IfOk result (λ h.
+        AddsOnly table.old.levels table.new.levels (sub h.level (pattern_of table.new h))) }
+    ensures parts { IfOk result (λ h. HasPatterns table.new.levels (sub h.level (pattern_of table.new h))) }
+    ensures good { IsGood table.new.levels }
+    ensures kept { Extends table.old.levels table.new.levels }
+    ensures patterns { KeepsPatterns table.old.levels table.new.levels }
+    ensures tuples { Lengthens table.old.tuples table.new.tuples }
+    ensures products { table.new.products ≡ table.old.products }
+{
+    table.law();
+    if are_numbered(classes) {
+        return reduce_numbered(alloc, table, g, classes);
+    }
     let (ranks, _) = canon_of(alloc, classes)?;
-    merge(alloc, table, g, ranks.as_slice())
+    reduce_numbered(alloc, table, g, ranks.as_slice())
 }
 
 /// The grouping and the different labels, in order of first appearance, of the function that has
@@ -63,9 +108,18 @@ pub fn assemble<T: Label>(
     ensures products { table.new.products ≡ table.old.products }
 {
     table.law();
-    let all = all_labels(alloc, rows)?;
-    let (ranks, different) = canon_of(alloc, all.as_slice())?;
-    let numbered = numbered_rows(alloc, rows, ranks.as_slice())?;
-    let g = join(alloc, table, a, numbered.as_slice())?;
+    let numbered = numbered_rows(alloc, rows)?;
+    let g = join(
+        alloc,
+        table,
+        a,
+        numbered.rows.as_slice(),
+        numbered.ranks.as_slice(),
+    )?;
+    let Numbered {
+        rows: _,
+        ranks: _,
+        different,
+    } = numbered;
     Ok((g, different))
 }

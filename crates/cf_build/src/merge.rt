@@ -1,28 +1,29 @@
 //! Merging of exits, and joining of rows into a grouping: the two call each other one level down.
 
-ghost use Rattle.std.specs.Prelude.{◌≡◌, ◌<◌, ◌≤◌, ◌+◌, ◌↔◌, ℕ, suc, length, map, All, IfOk, IsTrue, slice_index_or};
+ghost use Rattle.std.specs.Prelude.{◌≡◌, ◌<◌, ◌≤◌, ◌+◌, ◌++◌, ◌↔◌, ℕ, suc, length, map, All, IfOk, OnOk, IsTrue, slice_index_or};
 ghost use Rattle.cf_model.specs.Renumbering.{Grows};
 ghost use Rattle.cf_model.specs.Diagrams.{connection_at, count, exits, pattern, row, spell, IsGood, Extends};
 ghost use Rattle.cf_tuple.specs.Books.{Lengthens};
 ghost use Rattle.cf_table.specs.Groupings.{Owns, node_of, exits_of, pattern_of};
 ghost use Rattle.cf_build.specs.Assembling.{classed, Stands};
-ghost use Rattle.cf_build.specs.Joining.{IsLooseConnection, IsLooseNode, returning, row_connection, loose_node, classed_connection, IsThin, AreThin};
+ghost use Rattle.cf_build.specs.Joining.{IsLooseConnection, IsLooseNode, returning, row_connection, AreInTurn, loose_node, classed_connection, IsThin, AreThin};
 ghost use Rattle.cf_build.specs.Parts.{AddsParts, AddsPartsOf};
 
-use super::label::canon_of;
+use super::label::{are_few_and_differ, canon_of};
+use super::rows::{Row, labels_of};
 use cf_table::{BConn, DONT_CARE, Gid, Table};
 use cf_tuple::NoMemory;
 use std::alloc::Global;
 
-fn classed_exits(alloc: Global, returns: &[u64], classes: &[u64]) -> Result<Vec<u64>, NoMemory>
+/// Appends the class of each exit that a return tuple lists.
+fn append_classes(labels: &mut Vec<u64>, returns: &[u64], classes: &[u64]) -> Result<(), NoMemory>
     requires within { All (λ i. i < length classes.now) returns.now }
-    ensures { IfOk result (λ v. v.items ≡ classed classes.now returns.now) }
+    ensures { OnOk result (labels.new.items ≡ labels.old.items ++ classed classes.now returns.now) }
 {
-    let mut labels = Vec::new(alloc);
     for i in 0..returns.len() {
         labels.push(classes[returns[i] as usize])?;
     }
-    Ok(labels)
+    Ok(())
 }
 
 /// The B-connections of a grouping, with each exit replaced by its class.
@@ -31,21 +32,30 @@ fn classed_rows(
     table: &Table,
     g: Gid,
     classes: &[u64],
-) -> Result<Vec<(Gid, Vec<u64>)>, NoMemory>
+) -> Result<(Vec<Row>, Vec<u64>), NoMemory>
     requires level { 0 < g.level }
     requires owned { Owns table.now g }
     requires good { IsGood table.now.levels }
     requires entries { length classes.now ≡ exits_of table.now g }
-    ensures rows { IfOk result (λ v. map row_connection v.items ≡ map (classed_connection classes.now) (node_of table.now g).connections) }
-    ensures levels { IfOk result (λ v. All (λ r. r.0.level + 1 ≡ g.level) v.items) }
+    ensures rows { IfOk result (λ v. map (row_connection v.1.items) v.0.items
+        ≡ map (classed_connection classes.now) (node_of table.now g).connections) }
+    ensures levels { IfOk result (λ v. All (λ r. r.callee.level + 1 ≡ g.level) v.0.items) }
+    ensures in_turn { IfOk result (λ v. AreInTurn 0 v.0.items (length v.1.items)) }
 {
-    let mut rows = Vec::new(alloc);
-    for j in 0..table.middle_count(g) {
+    let count = table.middle_count(g);
+    let mut rows = Vec::with_capacity(alloc, count as usize)?;
+    let mut labels = Vec::with_capacity(alloc, classes.len())?;
+    for j in 0..count {
         let conn = table.connection(g, j);
-        let labels = classed_exits(alloc, table.tuple(conn.ret), classes)?;
-        rows.push((conn.to, labels))?;
+        let start = labels.len();
+        append_classes(&mut labels, table.tuple(conn.ret), classes)?;
+        rows.push(Row {
+            callee: conn.to,
+            start,
+            end: labels.len(),
+        })?;
     }
-    Ok(rows)
+    Ok((rows, labels))
 }
 
 /// Whether each exit is its own class.
@@ -92,8 +102,8 @@ pub(crate) fn merge(
         return Ok(known);
     }
     let a = table.a_callee(g);
-    let rows = classed_rows(alloc, table, g, classes)?;
-    let merged = join(alloc, table, a, rows.as_slice())?;
+    let (rows, labels) = classed_rows(alloc, table, g, classes)?;
+    let merged = join(alloc, table, a, rows.as_slice(), labels.as_slice())?;
     table.keep_reduction(alloc, g, classes, merged)?;
     Ok(merged)
 }
@@ -112,6 +122,10 @@ fn thin(alloc: Global, table: &mut Table, g: Gid, labels: &[u64]) -> Result<BCon
     ensures longer { Lengthens table.old.tuples table.new.tuples }
     ensures products { table.new.products ≡ table.old.products }
 {
+    if are_few_and_differ(labels) {
+        let ret = table.intern_tuple(labels)?;
+        return Ok(BConn { to: g, ret });
+    }
     let (ranks, different) = canon_of(alloc, labels)?;
     let to = merge(alloc, table, g, ranks.as_slice())?;
     let ret = table.intern_tuple(different.as_slice())?;
@@ -124,23 +138,28 @@ fn thin_rows(
     alloc: Global,
     table: &mut Table,
     level: u8,
-    rows: &[(Gid, Vec<u64>)],
+    rows: &[Row],
+    labels: &[u64],
 ) -> Result<Vec<BConn>, NoMemory>
     requires level { level ≤ 6 }
-    requires levels { All (λ r. r.0.level ≡ level) rows.now }
+    requires levels { All (λ r. r.callee.level ≡ level) rows.now }
+    requires in_turn { AreInTurn 0 rows.now (length labels.now) }
     requires good { IsGood table.old.levels }
-    requires connections { (j : ℕ) → j < length (map row_connection rows.now) → IsLooseConnection (count table.old.levels level) (exits table.old.levels level) (connection_at (map row_connection rows.now) j) }
-    ensures thin { IfOk result (λ v. AreThin table.new level (pattern table.old.levels level) (map row_connection rows.now) v.items) }
+    requires connections { (j : ℕ) → j < length (map (row_connection labels.now) rows.now) →
+        IsLooseConnection (count table.old.levels level) (exits table.old.levels level)
+        (connection_at (map (row_connection labels.now) rows.now) j) }
+    ensures thin { IfOk result (λ v. AreThin table.new level (pattern table.old.levels level)
+        (map (row_connection labels.now) rows.now) v.items) }
     ensures added { IfOk result (λ v. AddsPartsOf table.old.levels table.new.levels level v.items) }
     ensures good { IsGood table.new.levels }
     ensures extends { Extends table.old.levels table.new.levels }
     ensures longer { Lengthens table.old.tuples table.new.tuples }
     ensures products { table.new.products ≡ table.old.products }
 {
-    let mut conns = Vec::new(alloc);
+    let mut conns = Vec::with_capacity(alloc, rows.len())?;
     for i in 0..rows.len() {
-        let row = &rows[i];
-        let conn = thin(alloc, table, row.0, row.1.as_slice())?;
+        let row = rows[i];
+        let conn = thin(alloc, table, row.callee, labels_of(labels, row))?;
         conns.push(conn)?;
     }
     Ok(conns)
@@ -153,20 +172,28 @@ pub(crate) fn join(
     alloc: Global,
     table: &mut Table,
     a: Gid,
-    rows: &[(Gid, Vec<u64>)],
+    rows: &[Row],
+    labels: &[u64],
 ) -> Result<Gid, NoMemory>
     requires level { a.level ≤ 6 }
-    requires levels { All (λ r. r.0.level ≡ a.level) rows.now }
+    requires levels { All (λ r. r.callee.level ≡ a.level) rows.now }
+    requires in_turn { AreInTurn 0 rows.now (length labels.now) }
     requires good { IsGood table.old.levels }
-    requires loose { IsLooseNode (count table.old.levels a.level) (exits table.old.levels a.level) (loose_node a.at rows.now) }
-    ensures joined { IfOk result (λ g. Stands table.new.levels g (suc a.level) (spell (pattern table.old.levels a.level) (loose_node a.at rows.now))) }
+    requires loose { IsLooseNode (count table.old.levels a.level) (exits table.old.levels a.level)
+        (loose_node a.at rows.now labels.now) }
+    ensures joined { IfOk result (λ g. Stands table.new.levels g (suc a.level)
+        (spell (pattern table.old.levels a.level) (loose_node a.at rows.now labels.now))) }
     ensures added { IfOk result (λ g. AddsParts table.old.levels table.new.levels g.level g.at) }
     ensures good { IsGood table.new.levels }
     ensures extends { Extends table.old.levels table.new.levels }
     ensures longer { Lengthens table.old.tuples table.new.tuples }
     ensures products { table.new.products ≡ table.old.products }
 {
-    let conns = thin_rows(alloc, table, a.level, rows)?;
+    let conns = thin_rows(alloc, table, a.level, rows, labels)?;
+    if are_few_and_differ(conns.as_slice()) {
+        table.law();
+        return table.intern(a, conns.as_slice());
+    }
     let (classes, bs) = canon_of(alloc, conns.as_slice())?;
     let callee = merge(alloc, table, a, classes.as_slice())?;
     table.law();

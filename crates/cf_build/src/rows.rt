@@ -1,53 +1,74 @@
-//! The rows of an assembled grouping, and their labels' ranks.
+//! The rows of a grouping that is assembled. The labels of all of them stand in one list.
 
-ghost use Rattle.std.specs.Prelude.{◌≡◌, ◌≤◌, ◌++◌, length, map, take, flat_map, IfOk};
-ghost use Rattle.cf_build.specs.Joining.{frame};
+ghost use Rattle.std.specs.Prelude.{◌≡◌, ◌≤◌, length, IfOk};
+ghost use Rattle.cf_build.specs.Joining.{labels_in, AreNumbered};
 
 use super::label::Label;
+use super::numbering::Numbering;
 use cf_table::Gid;
 use cf_tuple::NoMemory;
 use std::alloc::Global;
 
-/// The labels of all rows, one row after another.
-pub(crate) fn all_labels<T: Label>(
-    alloc: Global,
-    rows: &[(Gid, Vec<T>)],
-) -> Result<Vec<T>, NoMemory>
-    ensures { IfOk result (λ v. v.items ≡ flat_map (λ r. r.1.items) rows.now) }
+/// A row: its grouping, and where its labels start and end in the list of all labels.
+#[derive(Clone, Copy, Debug)]
+pub(crate) struct Row {
+    pub callee: Gid,
+    pub start: usize,
+    pub end: usize,
+}
+
+/// The labels of a row, out of those of all rows.
+pub(crate) fn labels_of(labels: &[u64], row: Row) -> &[u64]
+    requires order { row.start ≤ row.end }
+    requires within { row.end ≤ length labels.now }
+    ensures { result.now ≡ labels_in labels.now row }
 {
-    let mut all = Vec::new(alloc);
+    &labels[row.start..row.end]
+}
+
+fn label_count<T>(rows: &[(Gid, Vec<T>)]) -> usize {
+    let mut count = 0usize;
     for row in rows {
-        all.extend_from_slice(row.1.as_slice())?;
+        count = count.saturating_add(row.1.len());
     }
-    Ok(all)
+    count
 }
 
-fn part(alloc: Global, ranks: &[u64], start: usize, end: usize) -> Result<Vec<u64>, NoMemory>
-    requires order { start ≤ end }
-    requires within { end ≤ length ranks.now }
-    ensures { IfOk result (λ v. take start ranks.now ++ v.items ≡ take end ranks.now) }
-{
-    Vec::from_slice(alloc, &ranks[start..end])
+/// Rows whose labels are replaced by their ranks of first appearance among the labels of all
+/// rows, row after row.
+#[derive(Drop)]
+pub(crate) struct Numbered<T> {
+    pub rows: Vec<Row>,
+    pub ranks: Vec<u64>,
+    pub different: Vec<T>,
 }
 
-/// The rows with each label replaced by its rank. The ranks stand in one list, row after row.
+/// The rows, numbered.
 pub(crate) fn numbered_rows<T: Label>(
     alloc: Global,
-    rows: &[(Gid, Vec<T>)],
-    ranks: &[u64],
-) -> Result<Vec<(Gid, Vec<u64>)>, NoMemory>
-    requires { length ranks.now ≡ length (flat_map (λ r. r.1.items) rows.now) }
-    ensures shape { IfOk result (λ v. map frame v.items ≡ map frame rows.now) }
-    ensures flat { IfOk result (λ v. flat_map (λ r. r.1.items) v.items ≡ ranks.now) }
+    given: &[(Gid, Vec<T>)],
+) -> Result<Numbered<T>, NoMemory>
+    ensures { IfOk result (λ n. AreNumbered given.now n.rows.items n.ranks.items n.different.items) }
 {
-    let mut numbered = Vec::new(alloc);
-    let mut start = 0;
-    for i in 0..rows.len() {
-        let row = &rows[i];
-        let end = start + row.1.len();
-        let labels = part(alloc, ranks, start, end)?;
-        numbered.push((row.0, labels))?;
-        start = end;
+    let mut rows = Vec::with_capacity(alloc, given.len())?;
+    let mut numbering = Numbering::new(alloc, label_count(given))?;
+    for row in given {
+        let start = numbering.ranks.len();
+        numbering.read(row.1.as_slice())?;
+        rows.push(Row {
+            callee: row.0,
+            start,
+            end: numbering.ranks.len(),
+        })?;
     }
-    Ok(numbered)
+    let Numbering {
+        ranks,
+        different,
+        keys: _,
+    } = numbering;
+    Ok(Numbered {
+        rows,
+        ranks,
+        different,
+    })
 }

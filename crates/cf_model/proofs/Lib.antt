@@ -7,6 +7,7 @@ pub mod RenumberingExamples
 pub mod FlatFunctionLaws
 pub mod FlatFunctionExamples
 pub mod PatternLaws
+pub mod SumLaws
 pub mod PatternExamples
 pub mod Canonicity
 pub mod Growing

@@ -1,15 +1,35 @@
-use Rattle.std.proofs.Common.{◌≡◌, ℕ, zero, suc, ◌*◌, List, [], ◌∷◌, ◌++◌, map, take, drop, length, nat_eq, refl, sym, ◌∙◌, ap, subst, arith}
+use Rattle.std.proofs.Common.{◌≡◌, ℕ, zero, suc, ◌*◌, List, [], ◌∷◌, ◌++◌, map, take, drop, length, Bool, true, false, ◌&&◌, nat_eq, refl, sym, ◌∙◌, ap, subst, arith}
 use Rattle.std.specs.Prelude.{flat_map, All}
 use Rattle.std.specs.Bool.{Decides}
 use Rattle.std.proofs.lemmas.List.{take-append-drop, length-take-le, length-drop, length-map, nil_from_length}
 use Rattle.std.proofs.lemmas.Slice.Eq.{bytes_eq-Decides}
 use Rattle.cf_model.specs.Renumbering.{width, Grows, IsCanon, rgs, distinct}
 use Rattle.cf_model.specs.FlatFunctions.{points}
-use Rattle.cf_model.specs.Patterns.{same_ranks, cut_into, rows, distinct_rows, a_pattern, b_patterns, return_lists, sub}
+use Rattle.cf_model.specs.Patterns.{Pattern, same_pattern, same_ranks, cut_into, rows, distinct_rows, a_pattern, b_patterns, return_lists, sub}
 use Rattle.cf_model.proofs.RenumberingLaws.{nat_decides, canon_of, canon_tells, rgs_grows, length-rgs}
 
 pub ranks_decide : (p q : List ℕ) → Decides (same_ranks p q) (p ≡ q)
 ranks_decide p q = bytes_eq-Decides p q
+
+-- two patterns are the same where the test says so
+abbrev of_ranks : ℕ → List ℕ → Pattern
+of_ranks l r = record { level = l; ranks = r }
+
+both : (a b : Bool) → (a && b) ≡ true → (a ≡ true) × (b ≡ true)
+both true b h = (refl, h)
+both false b h = cc
+
+both_true : (a b : Bool) → a ≡ true → b ≡ true → (a && b) ≡ true
+both_true true b e f = f
+both_true false b e f = cc
+
+pub patterns_decide : (p q : Pattern) → Decides (same_pattern p q) (p ≡ q)
+patterns_decide p q = (
+  λ h.
+      (let w = both (nat_eq p.level q.level) (same_ranks p.ranks q.ranks) h in
+      ap (λ (l : ℕ). of_ranks l p.ranks) ((nat_decides p.level q.level).0 w.0) ∙ ap (of_ranks q.level) ((ranks_decide p.ranks q.ranks).0 w.1)),
+  λ e. both_true (nat_eq p.level q.level) (same_ranks p.ranks q.ranks) ((nat_decides p.level q.level).1 (ap (λ (x : Pattern). x.level) e)) ((ranks_decide p.ranks q.ranks).1 (ap (λ (x : Pattern). x.ranks) e)),
+)
 
 -- the equations of `cut_into` and `sub`, which stay closed
 pub cut_into-none : (n : ℕ) (p : List ℕ) → cut_into 0 n p ≡ []

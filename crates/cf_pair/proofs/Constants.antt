@@ -12,7 +12,8 @@ use Rattle.cf_table.specs.declared.Gid.{Gid}
 use Rattle.cf_build.specs.Assembling.{HasCanon}
 use Rattle.cf_pair.specs.declared.tripling.Place.{Place}
 use Rattle.cf_pair.specs.declared.tripling.Place.TheVariants.{First, Second, Third}
-use Rattle.cf_pair.specs.Products.{zip3, after_zero, before_zero, at_place, zero_put}
+use Rattle.cf_table.specs.Triples.{zip3}
+use Rattle.cf_pair.specs.Products.{after_zero, before_zero, twice, at_place, zero_put}
 
 numbers_read : (n : ℕ) (p : List ℕ) → Under n p → map (slice_get (range_with_len 0 n)) p ≡ map Some p
 numbers_read n [] u = refl
@@ -90,6 +91,21 @@ beside_second t good g h lev hg hh one ps e =
     let c : IsCanon (zip (pattern t g.level g.at) (pattern t h.level h.at)) (pattern t g.level g.at) (map before_zero (range_with_len 0 (exits t g.level g.at))) =
     subst (λ (m : ℕ). IsCanon (zip (pattern t g.level g.at) (pattern t m h.at)) (pattern t g.level g.at) (map before_zero (range_with_len 0 (exits t g.level g.at)))) (sym lev) (second_constant t good g.level g.at h.at hg own_h one_g) in
     record { level = refl; there = hg; canon = subst (λ (v : List (ℕ × ℕ)). IsCanon (zip (pattern t g.level g.at) (pattern t h.level h.at)) (pattern t g.level g.at) v) (sym e) c }
+
+zip_twice : (p : List ℕ) → zip p p ≡ map twice p
+zip_twice [] = refl
+zip_twice (x ∷ p) = ap (λ (v : List (ℕ × ℕ)). twice x ∷ v) (zip_twice p)
+
+-- a grouping is its own product with itself
+pub beside_self : (t : Levels) → IsGood t → (g : Gid) → g.at < count t g.level → (ps : List (ℕ × ℕ)) → ps ≡ map twice (range_with_len 0 (exits t g.level g.at)) → HasCanon t g g.level (zip (pattern t g.level g.at) (pattern t g.level g.at)) ps
+beside_self t good g hg ps e =
+    let p = pattern t g.level g.at in
+    record {
+      level = refl;
+      there = hg;
+      canon = subst (λ (v : List (ℕ × ℕ)). IsCanon v p ps) (sym (zip_twice p))
+          (subst (λ (v : List (ℕ × ℕ)). IsCanon (map twice p) p v) (sym e) (canon-map twice (λ x y e. ap (λ (q : ℕ × ℕ). q.0) e) p p (range_with_len 0 (exits t g.level g.at)) (own t good g.level g.at hg)));
+    }
 
 -- a pair of zeros put in is told by the pair
 pub zero_put_tells : (place : Place) (x y : ℕ × ℕ) → zero_put place x ≡ zero_put place y → x ≡ y

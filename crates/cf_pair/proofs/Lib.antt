@@ -4,3 +4,4 @@ pub mod Pairs
 pub mod Triples
 pub mod Constants
 pub mod Bounds
+pub mod Keeping

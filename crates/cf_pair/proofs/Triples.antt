@@ -15,7 +15,8 @@ use Rattle.cf_table.specs.declared.Gid.{Gid}
 use Rattle.cf_table.proofs.Told.{good_node, base_exits}
 use Rattle.cf_table.proofs.Differ.{differ_apart}
 use Rattle.cf_build.specs.Assembling.{row_of, row_labels, labels_over, HasCanon, AddsOnly}
-use Rattle.cf_pair.specs.Products.{zip3, returned3, triple_word, Lists, ListEach, AddsOnlyIn}
+use Rattle.cf_table.specs.Triples.{zip3}
+use Rattle.cf_pair.specs.Products.{returned3, triple_word, Lists, ListEach, AddsOnlyIn}
 use Rattle.cf_pair.proofs.Zips.{Three, all_zip3, all_labels_of, differ_map, even_under, zip3_words, zip3_map, zip3_tells, length_zip3_even}
 use Rattle.cf_pair.proofs.Rows.{row_listed, labels_listed, each_row, assembled_added}
 use Rattle.cf_pair.proofs.Pairs.{spelled_at, callee_under, callee_kept, base_read, and_true}

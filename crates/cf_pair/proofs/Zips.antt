@@ -9,7 +9,7 @@ use Rattle.cf_model.proofs.RenumberingLaws.{canon_length, map_map}
 use Rattle.cf_build.proofs.Words.{canon_reads}
 use Rattle.cf_build.proofs.Joins.{all_reached, map_words, words_map}
 use Rattle.cf_build.proofs.Loops.{Under-at}
-use Rattle.cf_pair.specs.Products.{triple_of, zip3}
+use Rattle.cf_table.specs.Triples.{triple_of, zip3}
 
 zip_append : {A B : Type 0} (xs us : List A) (ys vs : List B) → length xs ≡ length ys → zip (xs ++ us) (ys ++ vs) ≡ zip xs ys ++ zip us vs
 zip_append [] us [] vs h = refl

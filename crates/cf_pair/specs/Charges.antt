@@ -1,6 +1,8 @@
 use Rattle.std.specs.Prelude.{◌≡◌, ℕ, ◌<◌, ◌≤◌, ◌+◌, ◌*◌, Bool, IsTrue, List, ◌++◌, All, Contains, sum_by}
-use Rattle.cf_model.specs.Renumbering.{AllDiffer}
+use Rattle.cf_model.specs.Renumbering.{AllDiffer, IsNew}
 use Rattle.cf_model.specs.Patterns.{Pattern, sub, node_work}
+use Rattle.cf_table.specs.declared.Gid.{Gid}
+use Rattle.cf_table.specs.Groupings.{Groupings, grouping_pattern, patterns_of}
 
 -- what a pair of patterns counts: the product of what a grouping of each counts
 abbrev pub pair_work : Pattern × Pattern → ℕ
@@ -20,3 +22,13 @@ pub record IsCharged (before now : List (Pattern × Pattern)) (p q : Pattern) (l
   pub parts : All (ArePartsOf p q limit) all
   pub cost : end ≤ start + own + 2 * sum_by pair_work all
   pub kept : IsTrue ok → now ≡ before ++ all
+
+-- The same for the patterns of two groupings, from a table to a later one.
+abbrev pub IsChargedFor : (before now : Groupings) → Gid → Gid → (limit own start end : ℕ) → Bool → Type 0
+IsChargedFor before now g h limit own start end ok =
+    IsCharged before.products now.products (grouping_pattern before.levels g) (grouping_pattern before.levels h) limit own start end ok
+
+-- The groupings are above level 0, and the memo has no product of them.
+pub record IsUnknown (t : Groupings) (g h : Gid) : Type 0 where
+  pub above : 1 ≤ g.level
+  pub new : IsNew t.products (patterns_of t.levels g h)

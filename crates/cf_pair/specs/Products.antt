@@ -6,18 +6,12 @@ use Rattle.cf_model.specs.Patterns.{sub}
 use Rattle.cf_model.specs.Diagrams.{Levels, Connection, count, connection_at, pattern, row, IsGood, Extends}
 use Rattle.cf_tuple.specs.Books.{Lengthens}
 use Rattle.cf_table.specs.declared.Gid.{Gid}
-use Rattle.cf_table.specs.Groupings.{Groupings}
-use Rattle.cf_build.specs.Assembling.{IsRow, row_of, row_labels}
+use Rattle.cf_table.specs.declared.BConn.{BConn}
+use Rattle.cf_table.specs.Groupings.{Groupings, connection_of, pattern_of}
+use Rattle.cf_table.specs.Triples.{zip3}
+use Rattle.cf_build.specs.Assembling.{IsRow, HasCanon, AddsOnly, row_of, row_labels}
 use Rattle.cf_pair.specs.declared.tripling.Place.{Place}
 use Rattle.cf_pair.specs.declared.tripling.Place.TheVariants.{First, Second, Third}
-
--- an entry beside a pair, as a triple
-abbrev pub triple_of : ℕ × (ℕ × ℕ) → ℕ × ℕ × ℕ
-triple_of t = (t.0, t.1.0, t.1.1)
-
--- the triples of the entries of three lists, place by place, as `zip` gives the pairs of two
-abbrev pub zip3 : List ℕ → List ℕ → List ℕ → List (ℕ × ℕ × ℕ)
-zip3 xs ys zs = map triple_of (zip xs (zip ys zs))
 
 -- an exit beside exit 0, which comes first
 abbrev pub after_zero : ℕ → ℕ × ℕ
@@ -26,6 +20,10 @@ after_zero e = (0, e)
 -- an exit beside exit 0, which comes second
 abbrev pub before_zero : ℕ → ℕ × ℕ
 before_zero e = (e, 0)
+
+-- an exit beside itself
+abbrev pub twice : ℕ → ℕ × ℕ
+twice e = (e, e)
 
 -- the one of three at a place
 abbrev pub at_place : {A : Type 0} → Place → A → A → A → A
@@ -46,6 +44,29 @@ returned2 xs ys p = (get_or xs p.0 0, get_or ys p.1 0)
 -- the outer exits to which three exits return, by three return tuples
 abbrev pub returned3 : List ℕ → List ℕ → List ℕ → ℕ × ℕ × ℕ → ℕ × ℕ × ℕ
 returned3 xs ys zs t = (get_or xs t.0 0, get_or ys t.1 0, get_or zs t.2 0)
+
+-- the exits that a B-connection over level l leads to, over the assignments of the second half
+abbrev pub connection_row : Groupings → ℕ → BConn → List ℕ
+connection_row t l b = row (pattern t.levels l) (connection_of t.tuples b)
+
+-- the pairs of exits that two B-connections lead to, and the triples that three do, over those assignments
+abbrev pub row_pairs : Groupings → BConn → BConn → List (ℕ × ℕ)
+row_pairs t b c = zip (connection_row t b.«to».level b) (connection_row t b.«to».level c)
+
+abbrev pub row_triples : Groupings → BConn → BConn → BConn → List (ℕ × ℕ × ℕ)
+row_triples t x y z = zip3 (connection_row t x.«to».level x) (connection_row t x.«to».level y) (connection_row t x.«to».level z)
+
+-- A grouping of the table `now` and a list are the product of two groupings of the table `before`, and of three.
+abbrev pub IsPairsOf : (before now : Groupings) → Gid → Gid → Gid → List (ℕ × ℕ) → Type 0
+IsPairsOf before now g h head pairs = HasCanon now.levels head g.level (zip (pattern_of before g) (pattern_of before h)) pairs
+
+abbrev pub IsTriplesOf : (before now : Groupings) → Gid → Gid → Gid → Gid → List (ℕ × ℕ × ℕ) → Type 0
+IsTriplesOf before now f g h head triples =
+    HasCanon now.levels head f.level (zip3 (pattern_of before f) (pattern_of before g) (pattern_of before h)) triples
+
+-- The table has gained only what the grouping is made of.
+abbrev pub AddsPartsOf : (before now : Groupings) → Gid → Type 0
+AddsPartsOf before now g = AddsOnly before.levels now.levels (sub g.level (pattern_of now g))
 
 -- the pairs of exits at a pair of middle vertices, over the assignments of the second half
 abbrev pub pair_word : (ℕ → List ℕ) → List Connection → List Connection → ℕ × ℕ → List (ℕ × ℕ)

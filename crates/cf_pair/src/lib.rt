@@ -11,7 +11,7 @@ ghost use Rattle.cf_model.specs.Diagrams.{IsGood, Extends, HasPatterns};
 ghost use Rattle.cf_tuple.specs.Books.{Lengthens};
 ghost use Rattle.cf_table.specs.Groupings.{Owns, pattern_of, patterns_of, KeepsPatterns};
 ghost use Rattle.cf_build.specs.Assembling.{HasCanon, AddsOnly};
-ghost use Rattle.cf_pair.specs.Products.{zip3};
+ghost use Rattle.cf_table.specs.Triples.{zip3};
 
 use cf_table::steps::Steps;
 use cf_table::{Gid, Table};
@@ -33,9 +33,12 @@ pub fn pair<L: Ledger>(
     requires first { Owns table.old g }
     requires second { Owns table.old h }
     requires level { g.level ≡ h.level }
-    ensures paired { IfOk result (λ r. HasCanon table.new.levels r.0 g.level (zip (pattern_of table.old g) (pattern_of table.old h)) r.1.items) }
-    ensures added { IfOk result (λ r. AddsOnly table.old.levels table.new.levels (sub r.0.level (pattern_of table.new r.0))) }
-    ensures parts { IfOk result (λ r. HasPatterns table.new.levels (sub r.0.level (pattern_of table.new r.0))) }
+    ensures paired { IfOk result (λ r. HasCanon table.new.levels r.0 g.level
+        (zip (pattern_of table.old g) (pattern_of table.old h)) r.1.items) }
+    ensures added { IfOk result (λ r. AddsOnly table.old.levels table.new.levels
+        (sub r.0.level (pattern_of table.new r.0))) }
+    ensures parts { IfOk result (λ r.
+        HasPatterns table.new.levels (sub r.0.level (pattern_of table.new r.0))) }
     ensures good { IsGood table.new.levels }
     ensures kept { Extends table.old.levels table.new.levels }
     ensures patterns { KeepsPatterns table.old.levels table.new.levels }
@@ -61,9 +64,12 @@ pub fn triple<L: Ledger>(
     requires third { Owns table.old h }
     requires level { f.level ≡ g.level }
     requires third_level { f.level ≡ h.level }
-    ensures tripled { IfOk result (λ r. HasCanon table.new.levels r.0 f.level (zip3 (pattern_of table.old f) (pattern_of table.old g) (pattern_of table.old h)) r.1.items) }
-    ensures added { IfOk result (λ r. AddsOnly table.old.levels table.new.levels (sub r.0.level (pattern_of table.new r.0))) }
-    ensures parts { IfOk result (λ r. HasPatterns table.new.levels (sub r.0.level (pattern_of table.new r.0))) }
+    ensures tripled { IfOk result (λ r. HasCanon table.new.levels r.0 f.level
+        (zip3 (pattern_of table.old f) (pattern_of table.old g) (pattern_of table.old h)) r.1.items) }
+    ensures added { IfOk result (λ r. AddsOnly table.old.levels table.new.levels
+        (sub r.0.level (pattern_of table.new r.0))) }
+    ensures parts { IfOk result (λ r.
+        HasPatterns table.new.levels (sub r.0.level (pattern_of table.new r.0))) }
     ensures good { IsGood table.new.levels }
     ensures kept { Extends table.old.levels table.new.levels }
     ensures patterns { KeepsPatterns table.old.levels table.new.levels }

@@ -4,17 +4,17 @@ ghost use Rattle.std.specs.Prelude.{◌≡◌, ◌≢◌, ◌<◌, ◌≤◌, �
 ghost use Rattle.std.specs.List.{zip, range_with_len};
 ghost use Rattle.std.specs.Result.{is_ok};
 ghost use Rattle.cf_model.specs.Patterns.{sub};
-ghost use Rattle.cf_model.specs.Diagrams.{pattern, row, IsGood, Extends};
+ghost use Rattle.cf_model.specs.Diagrams.{pattern, IsGood, Extends};
 ghost use Rattle.cf_tuple.specs.Books.{Lengthens};
-ghost use Rattle.cf_table.specs.Groupings.{Owns, node_of, pattern_of, patterns_of, exits_of, connection_of};
+ghost use Rattle.cf_table.specs.Groupings.{Owns, node_of, pattern_of, patterns_of, exits_of};
 ghost use Rattle.cf_table.specs.Goodness.{IsGoodOver};
 ghost use Rattle.cf_build.specs.Assembling.{HasCanon, AddsOnly};
-ghost use Rattle.cf_pair.specs.Charges.{pair_work, IsCharged};
-ghost use Rattle.cf_pair.specs.Products.{after_zero, before_zero, returned2, pair_word, Lists, ListEach, AddsOnlyIn};
+ghost use Rattle.cf_pair.specs.Charges.{pair_work, IsChargedFor, IsUnknown};
+ghost use Rattle.cf_pair.specs.Products.{after_zero, before_zero, twice, returned2, row_pairs, pair_word, IsPairsOf, AddsPartsOf, Lists, ListEach, AddsOnlyIn};
 
 use cf_build::assemble;
 use cf_table::steps::Steps;
-use cf_table::{BConn, DONT_CARE, FORK, Gid, Product, Table};
+use cf_table::{BConn, DONT_CARE, FORK, Gid, Table};
 use cf_tuple::NoMemory;
 use std::alloc::Global;
 use std::sync::ledger::Ledger;
@@ -31,7 +31,8 @@ fn pair_bases(
     requires good { IsGood table.now.levels }
     requires first { Owns table.now g }
     requires second { Owns table.now h }
-    ensures { IfOk result (λ r. HasCanon table.now.levels r.0 0 (zip (pattern_of table.now g) (pattern_of table.now h)) r.1.items) }
+    ensures { IfOk result (λ r. HasCanon table.now.levels r.0 0
+        (zip (pattern_of table.now g) (pattern_of table.now h)) r.1.items) }
 {
     let last = (table.exits(g) - 1, table.exits(h) - 1);
     let mut pairs = Vec::new(alloc);
@@ -47,7 +48,7 @@ fn pair_bases(
 fn pairs_after_zero(alloc: Global, exits: u64) -> Result<Vec<(u64, u64)>, NoMemory>
     ensures { IfOk result (λ v. v.items ≡ map after_zero (range_with_len 0 exits)) }
 {
-    let mut pairs = Vec::new(alloc);
+    let mut pairs = Vec::with_capacity(alloc, exits as usize)?;
     for exit in 0..exits {
         pairs.push((0, exit))?;
     }
@@ -58,11 +59,32 @@ fn pairs_after_zero(alloc: Global, exits: u64) -> Result<Vec<(u64, u64)>, NoMemo
 fn pairs_before_zero(alloc: Global, exits: u64) -> Result<Vec<(u64, u64)>, NoMemory>
     ensures { IfOk result (λ v. v.items ≡ map before_zero (range_with_len 0 exits)) }
 {
-    let mut pairs = Vec::new(alloc);
+    let mut pairs = Vec::with_capacity(alloc, exits as usize)?;
     for exit in 0..exits {
         pairs.push((exit, 0))?;
     }
     Ok(pairs)
+}
+
+/// Each of so many exits twice, in order.
+fn pairs_of_equals(alloc: Global, exits: u64) -> Result<Vec<(u64, u64)>, NoMemory>
+    ensures { IfOk result (λ v. v.items ≡ map twice (range_with_len 0 exits)) }
+{
+    let mut pairs = Vec::with_capacity(alloc, exits as usize)?;
+    for exit in 0..exits {
+        pairs.push((exit, exit))?;
+    }
+    Ok(pairs)
+}
+
+/// The product of a grouping with itself: the same grouping, as only equal exits meet.
+fn beside_itself(alloc: Global, table: &Table, g: Gid) -> Result<(Gid, Vec<(u64, u64)>), NoMemory>
+    requires good { IsGood table.now.levels }
+    requires owned { Owns table.now g }
+    ensures { IfOk result (λ r. IsPairsOf table.now table.now g g r.0 r.1.items) }
+{
+    let pairs = pairs_of_equals(alloc, table.exits(g))?;
+    Ok((g, pairs))
 }
 
 /// The product of two groupings of one level, where one of them has a single exit: the other one as
@@ -77,7 +99,9 @@ fn beside_constant(
     requires good { IsGood table.now.levels }
     requires first { Owns table.now g }
     requires second { Owns table.now h }
-    ensures { IfOk result (λ o. MatchOption o ((exits_of table.now g ≢ 1) × (exits_of table.now h ≢ 1)) (λ r. HasCanon table.now.levels r.0 g.level (zip (pattern_of table.now g) (pattern_of table.now h)) r.1.items)) }
+    ensures { IfOk result (λ o. MatchOption o
+        ((exits_of table.now g ≢ 1) × (exits_of table.now h ≢ 1))
+        (λ r. IsPairsOf table.now table.now g h r.0 r.1.items)) }
 {
     if table.exits(g) == 1 {
         let pairs = pairs_after_zero(alloc, table.exits(h))?;
@@ -90,6 +114,31 @@ fn beside_constant(
     Ok(None)
 }
 
+/// The product of two groupings of one level where it takes no look at what they are made of: at
+/// level 0, of a grouping with itself, and beside a single exit.
+fn plain_product(
+    alloc: Global,
+    table: &Table,
+    g: Gid,
+    h: Gid,
+) -> Result<Option<(Gid, Vec<(u64, u64)>)>, NoMemory>
+    requires levels { h.level ≡ g.level }
+    requires good { IsGood table.now.levels }
+    requires first { Owns table.now g }
+    requires second { Owns table.now h }
+    ensures { IfOk result (λ o. MatchOption o
+        (1 ≤ g.level)
+        (λ r. IsPairsOf table.now table.now g h r.0 r.1.items)) }
+{
+    if g.level == 0 {
+        return Ok(Some(pair_bases(alloc, table, g, h)?));
+    }
+    if g == h {
+        return Ok(Some(beside_itself(alloc, table, g)?));
+    }
+    beside_constant(alloc, table, g, h)
+}
+
 fn returned_pairs(
     alloc: Global,
     pairs: &[(u64, u64)],
@@ -99,7 +148,7 @@ fn returned_pairs(
     requires within { All (λ p. (p.0 < length left.now) × (p.1 < length right.now)) pairs.now }
     ensures { IfOk result (λ v. v.items ≡ map (returned2 left.now right.now) pairs.now) }
 {
-    let mut returned = Vec::new(alloc);
+    let mut returned = Vec::with_capacity(alloc, pairs.len())?;
     for i in 0..pairs.len() {
         let pair = pairs[i];
         returned.push((left[pair.0 as usize], right[pair.1 as usize]))?;
@@ -107,12 +156,81 @@ fn returned_pairs(
     Ok(returned)
 }
 
-/// A copy of a product that the memo has.
-fn copied(alloc: Global, product: &Product) -> Result<(Gid, Vec<(u64, u64)>), NoMemory>
-    ensures { IfOk result (λ r. (r.0 ≡ product.now.head) × (r.1.items ≡ product.now.pairs.items)) }
+/// The row to which the return tuples of two B-connections map the product of their callees.
+fn returned_row(
+    alloc: Global,
+    table: &Table,
+    to: Gid,
+    pairs: &[(u64, u64)],
+    b: BConn,
+    c: BConn,
+) -> Result<(Gid, Vec<(u64, u64)>), NoMemory>
+    requires good { IsGood table.now.levels }
+    requires first { IsGoodOver table.now b.«to».level b }
+    requires second { IsGoodOver table.now b.«to».level c }
+    requires product { IsPairsOf table.now table.now b.«to» c.«to» «to» pairs.now }
+    ensures head { IfOk result (λ r. r.0 ≡ «to») }
+    ensures row { IfOk result
+        (λ r. Lists table.now.levels b.«to».level (row_pairs table.now b c) r) }
 {
-    let pairs = Vec::from_slice(alloc, product.pairs.as_slice())?;
-    Ok((product.head, pairs))
+    let labels = returned_pairs(alloc, pairs, table.tuple(b.ret), table.tuple(c.ret))?;
+    Ok((to, labels))
+}
+
+/// The product of two groupings of one level where it takes no look at what they are made of, or
+/// the memo has it.
+fn known_product(
+    alloc: Global,
+    table: &Table,
+    g: Gid,
+    h: Gid,
+) -> Result<Option<(Gid, Vec<(u64, u64)>)>, NoMemory>
+    requires levels { h.level ≡ g.level }
+    requires good { IsGood table.now.levels }
+    requires first { Owns table.now g }
+    requires second { Owns table.now h }
+    ensures { IfOk result (λ o. MatchOption o
+        (IsUnknown table.now g h)
+        (λ r. IsPairsOf table.now table.now g h r.0 r.1.items)) }
+{
+    if let Some(product) = plain_product(alloc, table, g, h)? {
+        return Ok(Some(product));
+    }
+    match table.product_of(g, h) {
+        Some(product) => {
+            let pairs = Vec::from_slice(alloc, product.pairs.as_slice())?;
+            Ok(Some((product.head, pairs)))
+        }
+        None => Ok(None),
+    }
+}
+
+/// The row of two B-connections where the product of their callees is known so.
+fn known_row(
+    alloc: Global,
+    table: &Table,
+    b: BConn,
+    c: BConn,
+) -> Result<Option<(Gid, Vec<(u64, u64)>)>, NoMemory>
+    requires good { IsGood table.now.levels }
+    requires first { IsGoodOver table.now b.«to».level b }
+    requires second { IsGoodOver table.now b.«to».level c }
+    ensures { IfOk result (λ o. MatchOption o
+        (IsUnknown table.now b.«to» c.«to»)
+        (λ r. Lists table.now.levels b.«to».level (row_pairs table.now b c) r)) }
+{
+    if let Some((to, pairs)) = plain_product(alloc, table, b.to, c.to)? {
+        let row = returned_row(alloc, table, to, pairs.as_slice(), b, c)?;
+        return Ok(Some(row));
+    }
+    match table.product_of(b.to, c.to) {
+        Some(product) => {
+            let pairs = product.pairs.as_slice();
+            let row = returned_row(alloc, table, product.head, pairs, b, c)?;
+            Ok(Some(row))
+        }
+        None => Ok(None),
+    }
 }
 
 /// The product of two groupings of one level, from the memo if it is there.
@@ -129,25 +247,20 @@ pub(crate) fn pair_groupings<L: Ledger>(
     requires good { IsGood table.old.levels }
     requires first { Owns table.old g }
     requires second { Owns table.old h }
-    ensures paired { IfOk result (λ r. HasCanon table.new.levels r.0 g.level (zip (pattern_of table.old g) (pattern_of table.old h)) r.1.items) }
-    ensures added { IfOk result (λ r. AddsOnly table.old.levels table.new.levels (sub r.0.level (pattern_of table.new r.0))) }
+    ensures paired { IfOk result (λ r. IsPairsOf table.old table.new g h r.0 r.1.items) }
+    ensures added { IfOk result (λ r. AddsPartsOf table.old table.new r.0) }
     ensures good { IsGood table.new.levels }
     ensures extends { Extends table.old.levels table.new.levels }
     ensures longer { Lengthens table.old.tuples table.new.tuples }
-    ensures charged { let k = patterns_of table.old.levels g h in
-        IsCharged table.old.products table.new.products k.0 k.1 (suc g.level) 0 steps.old steps.new (is_ok result) }
+    ensures charged { IsChargedFor table.old table.new g h
+        (suc g.level) 0 steps.old steps.new (is_ok result) }
 {
-    if g.level == 0 {
-        return pair_bases(alloc, table, g, h);
-    }
-    if let Some(product) = beside_constant(alloc, table, g, h)? {
+    if let Some(product) = known_product(alloc, table, g, h)? {
         return Ok(product);
     }
-    if let Some(product) = table.product_of(g, h) {
-        return copied(alloc, product);
-    }
     let (head, pairs) = pair_parts(alloc, table, g, h, steps)?;
-    table.keep_product(alloc, g, h, head, pairs.as_slice())?;
+    let kept = Vec::from_slice(alloc, pairs.as_slice())?;
+    table.keep_product(g, h, head, kept)?;
     Ok((head, pairs))
 }
 
@@ -166,13 +279,13 @@ fn pair_parts<L: Ledger>(
     requires good { IsGood table.old.levels }
     requires first { Owns table.old g }
     requires second { Owns table.old h }
-    ensures paired { IfOk result (λ r. HasCanon table.new.levels r.0 g.level (zip (pattern_of table.old g) (pattern_of table.old h)) r.1.items) }
-    ensures added { IfOk result (λ r. AddsOnly table.old.levels table.new.levels (sub r.0.level (pattern_of table.new r.0))) }
+    ensures paired { IfOk result (λ r. IsPairsOf table.old table.new g h r.0 r.1.items) }
+    ensures added { IfOk result (λ r. AddsPartsOf table.old table.new r.0) }
     ensures good { IsGood table.new.levels }
     ensures extends { Extends table.old.levels table.new.levels }
     ensures longer { Lengthens table.old.tuples table.new.tuples }
-    ensures charged { let k = patterns_of table.old.levels g h in
-        IsCharged table.old.products table.new.products k.0 k.1 g.level (2 * pair_work k) steps.old steps.new (is_ok result) }
+    ensures charged { let own = 2 * pair_work (patterns_of table.old.levels g h) in
+        IsChargedFor table.old table.new g h g.level own steps.old steps.new (is_ok result) }
 {
     let a = table.a_of(g, steps);
     let b = table.a_of(h, steps);
@@ -194,22 +307,23 @@ fn pair_row<L: Ledger>(
     requires good { IsGood table.old.levels }
     requires first { IsGoodOver table.old b.«to».level b }
     requires second { IsGoodOver table.old b.«to».level c }
-    ensures row { IfOk result (λ r. Lists table.new.levels b.«to».level (zip (row (pattern table.old.levels b.«to».level) (connection_of table.old.tuples b)) (row (pattern table.old.levels b.«to».level) (connection_of table.old.tuples c))) r) }
-    ensures added { IfOk result (λ r. AddsOnly table.old.levels table.new.levels (sub b.«to».level (pattern table.new.levels b.«to».level r.0.at))) }
+    ensures row { IfOk result
+        (λ r. Lists table.new.levels b.«to».level (row_pairs table.old b c) r) }
+    ensures added { IfOk result (λ r. AddsOnly table.old.levels table.new.levels
+        (sub b.«to».level (pattern table.new.levels b.«to».level r.0.at))) }
     ensures good { IsGood table.new.levels }
     ensures extends { Extends table.old.levels table.new.levels }
     ensures longer { Lengthens table.old.tuples table.new.tuples }
-    ensures charged { let k = patterns_of table.old.levels b.«to» c.«to» in
-        IsCharged table.old.products table.new.products k.0 k.1 (suc b.«to».level) 0 steps.old steps.new (is_ok result) }
+    ensures charged { IsChargedFor table.old table.new b.«to» c.«to»
+        (suc b.«to».level) 0 steps.old steps.new (is_ok result) }
 {
-    let (to, pairs) = pair_groupings(alloc, table, b.to, c.to, steps)?;
-    let labels = returned_pairs(
-        alloc,
-        pairs.as_slice(),
-        table.tuple(b.ret),
-        table.tuple(c.ret),
-    )?;
-    Ok((to, labels))
+    if let Some(row) = known_row(alloc, table, b, c)? {
+        return Ok(row);
+    }
+    let (to, pairs) = pair_parts(alloc, table, b.to, c.to, steps)?;
+    let row = returned_row(alloc, table, to, pairs.as_slice(), b, c)?;
+    table.keep_product(b.to, c.to, to, pairs)?;
+    Ok(row)
 }
 
 /// A row for each pair of middle vertices.
@@ -228,16 +342,24 @@ fn pair_rows<L: Ledger>(
     requires good { IsGood table.old.levels }
     requires first { Owns table.old g }
     requires second { Owns table.old h }
-    requires middles { All (λ m. (m.0 < length (node_of table.old g).connections) × (m.1 < length (node_of table.old h).connections)) middles.now }
-    ensures rows { IfOk result (λ v. ListEach table.new.levels (g.level - 1) (λ i. pair_word (pattern table.old.levels (g.level - 1)) (node_of table.old g).connections (node_of table.old h).connections (slice_index_or middles.now i (0, 0))) (length middles.now) v.items) }
-    ensures added { IfOk result (λ v. AddsOnlyIn table.old.levels table.new.levels (g.level - 1) v.items) }
+    requires middles { All (λ m.
+        (m.0 < length (node_of table.old g).connections)
+        × (m.1 < length (node_of table.old h).connections)) middles.now }
+    ensures rows { IfOk result (λ v. ListEach table.new.levels (g.level - 1)
+        (λ i. pair_word (pattern table.old.levels (g.level - 1))
+        (node_of table.old g).connections
+        (node_of table.old h).connections
+        (slice_index_or middles.now i (0, 0)))
+        (length middles.now) v.items) }
+    ensures added { IfOk result (λ v.
+        AddsOnlyIn table.old.levels table.new.levels (g.level - 1) v.items) }
     ensures good { IsGood table.new.levels }
     ensures extends { Extends table.old.levels table.new.levels }
     ensures longer { Lengthens table.old.tuples table.new.tuples }
-    ensures charged { let k = patterns_of table.old.levels g h in
-        IsCharged table.old.products table.new.products k.0 k.1 g.level (2 * length middles.now) steps.old steps.new (is_ok result) }
+    ensures charged { IsChargedFor table.old table.new g h
+        g.level (2 * length middles.now) steps.old steps.new (is_ok result) }
 {
-    let mut rows = Vec::new(alloc);
+    let mut rows = Vec::with_capacity(alloc, middles.len())?;
     for i in 0..middles.len() {
         let middle = middles[i];
         let b = table.b_of(g, middle.0, steps);

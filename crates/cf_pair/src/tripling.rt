@@ -1,14 +1,15 @@
 //! The recursion of the triple product, as that of the pair product.
 
-ghost use Rattle.std.specs.Prelude.{◌≡◌, ◌≢◌, ◌<◌, ◌≤◌, ◌-◌, length, map, All, IfOk, MatchOption, slice_index_or};
+ghost use Rattle.std.specs.Prelude.{◌≡◌, ◌≢◌, ◌<◌, ◌≤◌, ◌-◌, length, map, All, false, IfOk, IfSome, MatchOption, slice_index_or};
 ghost use Rattle.std.specs.List.{zip};
 ghost use Rattle.cf_model.specs.Patterns.{sub};
-ghost use Rattle.cf_model.specs.Diagrams.{pattern, row, IsGood, Extends};
+ghost use Rattle.cf_model.specs.Diagrams.{pattern, IsGood, Extends};
 ghost use Rattle.cf_tuple.specs.Books.{Lengthens};
-ghost use Rattle.cf_table.specs.Groupings.{Owns, node_of, pattern_of, exits_of, connection_of};
+ghost use Rattle.cf_table.specs.Groupings.{Owns, node_of, pattern_of, exits_of};
 ghost use Rattle.cf_table.specs.Goodness.{IsGoodOver};
 ghost use Rattle.cf_build.specs.Assembling.{HasCanon, AddsOnly};
-ghost use Rattle.cf_pair.specs.Products.{zip3, at_place, zero_put, returned3, triple_word, Lists, ListEach, AddsOnlyIn};
+ghost use Rattle.cf_table.specs.Triples.{zip3};
+ghost use Rattle.cf_pair.specs.Products.{at_place, zero_put, returned3, row_triples, triple_word, IsTriplesOf, AddsPartsOf, Lists, ListEach, AddsOnlyIn};
 
 use crate::pairing::pair_groupings;
 use cf_build::assemble;
@@ -41,7 +42,8 @@ fn triple_bases(
     requires first { Owns table.now f }
     requires second { Owns table.now g }
     requires third { Owns table.now h }
-    ensures { IfOk result (λ r. HasCanon table.now.levels r.0 0 (zip3 (pattern_of table.now f) (pattern_of table.now g) (pattern_of table.now h)) r.1.items) }
+    ensures { IfOk result (λ r. HasCanon table.now.levels r.0 0
+        (zip3 (pattern_of table.now f) (pattern_of table.now g) (pattern_of table.now h)) r.1.items) }
 {
     let last = (table.exits(f) - 1, table.exits(g) - 1, table.exits(h) - 1);
     let mut triples = Vec::new(alloc);
@@ -72,7 +74,7 @@ fn pairs_with_zero(
 ) -> Result<Vec<(u64, u64, u64)>, NoMemory>
     ensures { IfOk result (λ v. v.items ≡ map (zero_put place) pairs.now) }
 {
-    let mut triples = Vec::new(alloc);
+    let mut triples = Vec::with_capacity(alloc, pairs.len())?;
     for &pair in pairs {
         triples.push(with_zero(place, pair))?;
     }
@@ -93,8 +95,9 @@ fn pair_with_zero<L: Ledger>(
     requires good { IsGood table.old.levels }
     requires first { Owns table.old g }
     requires second { Owns table.old h }
-    ensures paired { IfOk result (λ r. HasCanon table.new.levels r.0 g.level (map (zero_put place) (zip (pattern_of table.old g) (pattern_of table.old h))) r.1.items) }
-    ensures added { IfOk result (λ r. AddsOnly table.old.levels table.new.levels (sub r.0.level (pattern_of table.new r.0))) }
+    ensures paired { IfOk result (λ r. HasCanon table.new.levels r.0 g.level
+        (map (zero_put place) (zip (pattern_of table.old g) (pattern_of table.old h))) r.1.items) }
+    ensures added { IfOk result (λ r. AddsPartsOf table.old table.new r.0) }
     ensures good { IsGood table.new.levels }
     ensures extends { Extends table.old.levels table.new.levels }
     ensures longer { Lengthens table.old.tuples table.new.tuples }
@@ -125,8 +128,8 @@ fn place_of_constant(table: &Table, f: Gid, g: Gid, h: Gid) -> Option<Place>
     None
 }
 
-/// The product of three groupings of one level, the one at a place having a single exit: that of the
-/// other two, with exit 0 at that place.
+/// The product of three groupings of one level, the one at a place having a single exit: that of
+/// the other two, with exit 0 at that place.
 fn beside_constant<L: Ledger>(
     alloc: Global,
     table: &mut Table,
@@ -144,8 +147,8 @@ fn beside_constant<L: Ledger>(
     requires second { Owns table.old g }
     requires third { Owns table.old h }
     requires constant { exits_of table.old (at_place place f g h) ≡ 1 }
-    ensures tripled { IfOk result (λ r. HasCanon table.new.levels r.0 f.level (zip3 (pattern_of table.old f) (pattern_of table.old g) (pattern_of table.old h)) r.1.items) }
-    ensures added { IfOk result (λ r. AddsOnly table.old.levels table.new.levels (sub r.0.level (pattern_of table.new r.0))) }
+    ensures tripled { IfOk result (λ r. IsTriplesOf table.old table.new f g h r.0 r.1.items) }
+    ensures added { IfOk result (λ r. AddsPartsOf table.old table.new r.0) }
     ensures good { IsGood table.new.levels }
     ensures extends { Extends table.old.levels table.new.levels }
     ensures longer { Lengthens table.old.tuples table.new.tuples }
@@ -164,10 +167,12 @@ fn returned_triples(
     middle: &[u64],
     right: &[u64],
 ) -> Result<Vec<(u64, u64, u64)>, NoMemory>
-    requires within { All (λ t. (t.0 < length left.now) × (t.1 < length middle.now) × (t.2 < length right.now)) triples.now }
-    ensures { IfOk result (λ v. v.items ≡ map (returned3 left.now middle.now right.now) triples.now) }
+    requires within { All (λ t.
+        (t.0 < length left.now) × (t.1 < length middle.now) × (t.2 < length right.now)) triples.now }
+    ensures { IfOk result
+        (λ v. v.items ≡ map (returned3 left.now middle.now right.now) triples.now) }
 {
-    let mut returned = Vec::new(alloc);
+    let mut returned = Vec::with_capacity(alloc, triples.len())?;
     for i in 0..triples.len() {
         let triple = triples[i];
         returned.push((
@@ -179,7 +184,91 @@ fn returned_triples(
     Ok(returned)
 }
 
-/// The product of three groupings of one level.
+/// The row to which the return tuples of three B-connections map the product of their callees.
+fn returned_row(
+    alloc: Global,
+    table: &Table,
+    to: Gid,
+    triples: &[(u64, u64, u64)],
+    x: BConn,
+    y: BConn,
+    z: BConn,
+) -> Result<(Gid, Vec<(u64, u64, u64)>), NoMemory>
+    requires good { IsGood table.now.levels }
+    requires first { IsGoodOver table.now x.«to».level x }
+    requires second { IsGoodOver table.now x.«to».level y }
+    requires third { IsGoodOver table.now x.«to».level z }
+    requires product { IsTriplesOf table.now table.now x.«to» y.«to» z.«to» «to» triples.now }
+    ensures head { IfOk result (λ r. r.0 ≡ «to») }
+    ensures row { IfOk result
+        (λ r. Lists table.now.levels x.«to».level (row_triples table.now x y z) r) }
+{
+    let labels = returned_triples(
+        alloc,
+        triples,
+        table.tuple(x.ret),
+        table.tuple(y.ret),
+        table.tuple(z.ret),
+    )?;
+    Ok((to, labels))
+}
+
+/// The product of three groupings of one level, if the memo has it.
+fn kept_product(
+    alloc: Global,
+    table: &Table,
+    f: Gid,
+    g: Gid,
+    h: Gid,
+) -> Result<Option<(Gid, Vec<(u64, u64, u64)>)>, NoMemory>
+    ensures { IfOk result (λ o. IfSome o
+        (λ r. IsTriplesOf table.now table.now f g h r.0 r.1.items)) }
+{
+    match table.triple_of(f, g, h) {
+        Some(product) => {
+            let triples = Vec::from_slice(alloc, product.triples.as_slice())?;
+            Ok(Some((product.head, triples)))
+        }
+        None => Ok(None),
+    }
+}
+
+/// The row of three B-connections, if the memo has the product of their callees.
+fn kept_row(
+    alloc: Global,
+    table: &Table,
+    x: BConn,
+    y: BConn,
+    z: BConn,
+) -> Result<Option<(Gid, Vec<(u64, u64, u64)>)>, NoMemory>
+    requires good { IsGood table.now.levels }
+    requires first { IsGoodOver table.now x.«to».level x }
+    requires second { IsGoodOver table.now x.«to».level y }
+    requires third { IsGoodOver table.now x.«to».level z }
+    ensures { IfOk result (λ o. IfSome o
+        (λ r. Lists table.now.levels x.«to».level (row_triples table.now x y z) r)) }
+{
+    match table.triple_of(x.to, y.to, z.to) {
+        Some(product) => {
+            let triples = product.triples.as_slice();
+            let row = returned_row(alloc, table, product.head, triples, x, y, z)?;
+            Ok(Some(row))
+        }
+        None => Ok(None),
+    }
+}
+
+/// Whether the product of three groupings of one level is that of fewer, or of level 0.
+fn is_plain(table: &Table, f: Gid, g: Gid, h: Gid) -> bool
+    requires first { Owns table.now f }
+    requires second { Owns table.now g }
+    requires third { Owns table.now h }
+    ensures { result ≡ false → 1 ≤ f.level }
+{
+    f.level == 0 || place_of_constant(table, f, g, h).is_some()
+}
+
+/// The product of three groupings of one level, from the memo if it is there.
 #[cycle(triple)]
 pub(crate) fn triple_groupings<L: Ledger>(
     alloc: Global,
@@ -196,8 +285,8 @@ pub(crate) fn triple_groupings<L: Ledger>(
     requires first { Owns table.old f }
     requires second { Owns table.old g }
     requires third { Owns table.old h }
-    ensures tripled { IfOk result (λ r. HasCanon table.new.levels r.0 f.level (zip3 (pattern_of table.old f) (pattern_of table.old g) (pattern_of table.old h)) r.1.items) }
-    ensures added { IfOk result (λ r. AddsOnly table.old.levels table.new.levels (sub r.0.level (pattern_of table.new r.0))) }
+    ensures tripled { IfOk result (λ r. IsTriplesOf table.old table.new f g h r.0 r.1.items) }
+    ensures added { IfOk result (λ r. AddsPartsOf table.old table.new r.0) }
     ensures good { IsGood table.new.levels }
     ensures extends { Extends table.old.levels table.new.levels }
     ensures longer { Lengthens table.old.tuples table.new.tuples }
@@ -208,6 +297,39 @@ pub(crate) fn triple_groupings<L: Ledger>(
     if let Some(place) = place_of_constant(table, f, g, h) {
         return beside_constant(alloc, table, place, f, g, h, steps);
     }
+    if let Some(product) = kept_product(alloc, table, f, g, h)? {
+        return Ok(product);
+    }
+    let (head, triples) = triple_parts(alloc, table, f, g, h, steps)?;
+    let kept = Vec::from_slice(alloc, triples.as_slice())?;
+    table.keep_triple(f, g, h, head, kept)?;
+    Ok((head, triples))
+}
+
+/// The product of three groupings of one level above 0, from the products of what they are made of.
+#[cycle(triple)]
+fn triple_parts<L: Ledger>(
+    alloc: Global,
+    table: &mut Table,
+    f: Gid,
+    g: Gid,
+    h: Gid,
+    steps: &mut Steps<L>,
+) -> Result<(Gid, Vec<(u64, u64, u64)>), NoMemory>
+    requires above { 1 ≤ f.level }
+    requires level { f.level ≤ 7 }
+    requires second_level { g.level ≡ f.level }
+    requires third_level { h.level ≡ f.level }
+    requires good { IsGood table.old.levels }
+    requires first { Owns table.old f }
+    requires second { Owns table.old g }
+    requires third { Owns table.old h }
+    ensures tripled { IfOk result (λ r. IsTriplesOf table.old table.new f g h r.0 r.1.items) }
+    ensures added { IfOk result (λ r. AddsPartsOf table.old table.new r.0) }
+    ensures good { IsGood table.new.levels }
+    ensures extends { Extends table.old.levels table.new.levels }
+    ensures longer { Lengthens table.old.tuples table.new.tuples }
+{
     let a = table.a_of(f, steps);
     let b = table.a_of(g, steps);
     let c = table.a_of(h, steps);
@@ -231,21 +353,25 @@ fn triple_row<L: Ledger>(
     requires first { IsGoodOver table.old x.«to».level x }
     requires second { IsGoodOver table.old x.«to».level y }
     requires third { IsGoodOver table.old x.«to».level z }
-    ensures row { IfOk result (λ r. Lists table.new.levels x.«to».level (zip3 (row (pattern table.old.levels x.«to».level) (connection_of table.old.tuples x)) (row (pattern table.old.levels x.«to».level) (connection_of table.old.tuples y)) (row (pattern table.old.levels x.«to».level) (connection_of table.old.tuples z))) r) }
-    ensures added { IfOk result (λ r. AddsOnly table.old.levels table.new.levels (sub x.«to».level (pattern table.new.levels x.«to».level r.0.at))) }
+    ensures row { IfOk result
+        (λ r. Lists table.new.levels x.«to».level (row_triples table.old x y z) r) }
+    ensures added { IfOk result (λ r. AddsOnly table.old.levels table.new.levels
+        (sub x.«to».level (pattern table.new.levels x.«to».level r.0.at))) }
     ensures good { IsGood table.new.levels }
     ensures extends { Extends table.old.levels table.new.levels }
     ensures longer { Lengthens table.old.tuples table.new.tuples }
 {
-    let (to, triples) = triple_groupings(alloc, table, x.to, y.to, z.to, steps)?;
-    let labels = returned_triples(
-        alloc,
-        triples.as_slice(),
-        table.tuple(x.ret),
-        table.tuple(y.ret),
-        table.tuple(z.ret),
-    )?;
-    Ok((to, labels))
+    if is_plain(table, x.to, y.to, z.to) {
+        let (to, triples) = triple_groupings(alloc, table, x.to, y.to, z.to, steps)?;
+        return returned_row(alloc, table, to, triples.as_slice(), x, y, z);
+    }
+    if let Some(row) = kept_row(alloc, table, x, y, z)? {
+        return Ok(row);
+    }
+    let (to, triples) = triple_parts(alloc, table, x.to, y.to, z.to, steps)?;
+    let row = returned_row(alloc, table, to, triples.as_slice(), x, y, z)?;
+    table.keep_triple(x.to, y.to, z.to, to, triples)?;
+    Ok(row)
 }
 
 /// A row for each three middle vertices.
@@ -267,14 +393,24 @@ fn triple_rows<L: Ledger>(
     requires first { Owns table.old f }
     requires second { Owns table.old g }
     requires third { Owns table.old h }
-    requires middles { All (λ m. (m.0 < length (node_of table.old f).connections) × (m.1 < length (node_of table.old g).connections) × (m.2 < length (node_of table.old h).connections)) middles.now }
-    ensures rows { IfOk result (λ v. ListEach table.new.levels (f.level - 1) (λ i. triple_word (pattern table.old.levels (f.level - 1)) (node_of table.old f).connections (node_of table.old g).connections (node_of table.old h).connections (slice_index_or middles.now i (0, 0, 0))) (length middles.now) v.items) }
-    ensures added { IfOk result (λ v. AddsOnlyIn table.old.levels table.new.levels (f.level - 1) v.items) }
+    requires middles { All (λ m.
+        (m.0 < length (node_of table.old f).connections)
+        × (m.1 < length (node_of table.old g).connections)
+        × (m.2 < length (node_of table.old h).connections)) middles.now }
+    ensures rows { IfOk result (λ v. ListEach table.new.levels (f.level - 1)
+        (λ i. triple_word (pattern table.old.levels (f.level - 1))
+        (node_of table.old f).connections
+        (node_of table.old g).connections
+        (node_of table.old h).connections
+        (slice_index_or middles.now i (0, 0, 0)))
+        (length middles.now) v.items) }
+    ensures added { IfOk result (λ v.
+        AddsOnlyIn table.old.levels table.new.levels (f.level - 1) v.items) }
     ensures good { IsGood table.new.levels }
     ensures extends { Extends table.old.levels table.new.levels }
     ensures longer { Lengthens table.old.tuples table.new.tuples }
 {
-    let mut rows = Vec::new(alloc);
+    let mut rows = Vec::with_capacity(alloc, middles.len())?;
     for i in 0..middles.len() {
         let middle = middles[i];
         let x = table.b_of(f, middle.0, steps);

@@ -12,7 +12,7 @@ use Rattle.cf_model.proofs.PairSumLaws.{pair_decides}
 use Rattle.cf_table.specs.declared.Gid.{Gid}
 use Rattle.cf_table.specs.Groupings.{pattern_of}
 use Rattle.cf_build.specs.Assembling.{HasCanon, AddsOnly}
-use Rattle.cf_pair.specs.Products.{zip3}
+use Rattle.cf_table.specs.Triples.{zip3}
 use Rattle.cf_pkg.specs.declared.Func.{Func}
 use Rattle.cf_pkg.specs.Packages.{Package, function_parts}
 use Rattle.cf_pkg.specs.Products.{pair_parts, triple_parts, same_triple}

@@ -14,3 +14,4 @@ pub mod Heading
 pub mod Works
 pub mod Added
 pub mod Making
+pub mod Remembering

@@ -1,21 +1,20 @@
-use Rattle.std.proofs.Common.{◌≡◌, ℕ, zero, suc, ◌<◌, Bool, true, ◌&&◌, List, [], ◌++◌, map, length, get_or, nat_eq, refl, sym, ◌∙◌, ap, subst, arith, inl, inr, ◌⊎◌, Some, option_map, false}
+use Rattle.std.proofs.Common.{◌≡◌, ℕ, zero, suc, ◌<◌, Bool, List, [], ◌++◌, map, length, get_or, nat_eq, refl, sym, ◌∙◌, ap, subst, arith, inl, inr, ◌⊎◌, Some, option_map}
 use Rattle.std.specs.List.{flat_map, filter, slice_get, All, Contains}
-use Rattle.std.specs.Bool.{Decides}
 use Rattle.std.proofs.lemmas.List.{length-map}
 use Rattle.std.proofs.lemmas.List.Elements.{All-contains, Contains-get_or, Contains-append_cases}
 use Rattle.std.proofs.lemmas.Option.{slice_get_within, slice_get-map, slice_get-get_or, same_Some}
 use Rattle.cf_model.specs.Renumbering.{AllDiffer, IsApart, distinct}
-use Rattle.cf_model.specs.Patterns.{Pattern, same_ranks, same_pattern, a_pattern, b_patterns, sub, subs, size_at}
+use Rattle.cf_model.specs.Patterns.{Pattern, same_pattern, a_pattern, b_patterns, sub, subs, size_at}
 use Rattle.cf_model.specs.Diagrams.{Levels, Node, Connection, no_connection, connection_at, count, node, pattern, exits, IsGood, IsGoodNode}
-use Rattle.cf_model.proofs.PatternLaws.{ranks_decide}
+use Rattle.cf_model.proofs.PatternLaws.{patterns_decide}
 use Rattle.cf_model.proofs.RenumberingLaws.{nat_decides, distinct_differ}
 use Rattle.cf_model.proofs.Canonicity.{canonical}
 use Rattle.cf_model.proofs.Callees.{a_law, callees_law}
 use Rattle.cf_table.specs.declared.Gid.{Gid}
-use Rattle.cf_table.specs.Groupings.{Groupings, Owns}
+use Rattle.cf_table.specs.Groupings.{Groupings, Owns, grouping_pattern}
 use Rattle.cf_build.specs.Parts.{IsPart}
 use Rattle.cf_build.proofs.PartLaws.{part_self, part_in_sub}
-use Rattle.cf_pkg.specs.Sizes.{grouping_pattern, callees, IsReached, ListsReached}
+use Rattle.cf_pkg.specs.Sizes.{callees, IsReached, ListsReached}
 use Rattle.cf_pkg.proofs.Members.{none, place_of, here, later, first_or_later, mapped, from_mapped, among, from_among, passing, from_passing, distinct_has, distinct_from, equally_long}
 
 -- the callees of a node: its A-callee, and each B-callee
@@ -136,34 +135,17 @@ sub_has_part t g (suc l) i h x c =
       ]
     ]
 
--- two patterns are the same where the test says so
-both : (a b : Bool) → (a && b) ≡ true → (a ≡ true) × (b ≡ true)
-both true b h = (refl, h)
-both false b h = cc
-
-both_true : (a b : Bool) → a ≡ true → b ≡ true → (a && b) ≡ true
-both_true true b e f = f
-both_true false b e f = cc
-
-pub patterns_decide : (p q : Pattern) → Decides (same_pattern p q) (p ≡ q)
-patterns_decide p q = (
-  λ h.
-      (let w = both (nat_eq p.level q.level) (same_ranks p.ranks q.ranks) h in
-      ap (λ (l : ℕ). made l p.ranks) ((nat_decides p.level q.level).0 w.0) ∙ ap (made q.level) ((ranks_decide p.ranks q.ranks).0 w.1)),
-  λ e. both_true (nat_eq p.level q.level) (same_ranks p.ranks q.ranks) ((nat_decides p.level q.level).1 (ap (λ (x : Pattern). x.level) e)) ((ranks_decide p.ranks q.ranks).1 (ap (λ (x : Pattern). x.ranks) e)),
-)
-
 -- What is reached has the patterns that the heads' patterns are made of.
-pub reached_in : (t : Groupings) → IsGood t.levels → (heads : List Gid) → All (Owns t) heads → (k i : ℕ) → IsReached t.levels heads k i → Contains (subs (map (grouping_pattern t) heads)) (pattern_at t.levels k i)
+pub reached_in : (t : Groupings) → IsGood t.levels → (heads : List Gid) → All (Owns t) heads → (k i : ℕ) → IsReached t.levels heads k i → Contains (subs (map (grouping_pattern t.levels) heads)) (pattern_at t.levels k i)
 reached_in t g heads own k i r =
-    among (λ p. sub p.level p.ranks) (map (grouping_pattern t) heads) (grouping_pattern t r.0) (pattern_at t.levels k i) (mapped (grouping_pattern t) heads r.0 r.1)
+    among (λ p. sub p.level p.ranks) (map (grouping_pattern t.levels) heads) (grouping_pattern t.levels r.0) (pattern_at t.levels k i) (mapped (grouping_pattern t.levels) heads r.0 r.1)
     (part_in_sub t.levels g r.0.level r.0.at (All-contains (Owns t) heads r.0 own r.1) k i r.2)
 
-pub reached_from : (t : Groupings) → IsGood t.levels → (heads : List Gid) → All (Owns t) heads → (x : Pattern) → Contains (subs (map (grouping_pattern t) heads)) x
+pub reached_from : (t : Groupings) → IsGood t.levels → (heads : List Gid) → All (Owns t) heads → (x : Pattern) → Contains (subs (map (grouping_pattern t.levels) heads)) x
     → (i : ℕ) × IsReached t.levels heads x.level i × (pattern_at t.levels x.level i ≡ x)
 reached_from t g heads own x c =
-    let u = from_among (λ p. sub p.level p.ranks) (map (grouping_pattern t) heads) x c in
-    let v = from_mapped (grouping_pattern t) heads u.0 u.1 in
+    let u = from_among (λ p. sub p.level p.ranks) (map (grouping_pattern t.levels) heads) x c in
+    let v = from_mapped (grouping_pattern t.levels) heads u.0 u.1 in
     let w = sub_has_part t.levels g v.0.level v.0.at (All-contains (Owns t) heads v.0 own v.1) x (subst (λ (p : Pattern). Contains (sub p.level p.ranks) x) (sym v.2) u.2) in
     (w.0, (v.0, v.1, w.1), w.2)
 
@@ -181,9 +163,9 @@ AllDiffer-mapped {A} f n xs apart under d i j y hi hj =
     d i j (get_or xs j 0) (slice_get-get_or xs i 0 a.0 ∙ ap Some same) (slice_get-get_or xs j 0 b.0)
 
 -- The list of what is reached at a level is as long as the size there.
-pub counted : (t : Groupings) → IsGood t.levels → (heads : List Gid) → All (Owns t) heads → (k : ℕ) (places : List ℕ) → ListsReached t.levels heads k places → length places ≡ size_at k (map (grouping_pattern t) heads)
+pub counted : (t : Groupings) → IsGood t.levels → (heads : List Gid) → All (Owns t) heads → (k : ℕ) (places : List ℕ) → ListsReached t.levels heads k places → length places ≡ size_at k (map (grouping_pattern t.levels) heads)
 counted t g heads own k places h =
-    let ps = map (grouping_pattern t) heads in
+    let ps = map (grouping_pattern t.levels) heads in
     let at_level : Pattern → Bool = λ p. nat_eq p.level k in
     let found = filter at_level (subs ps) in
     let f : ℕ → Pattern = pattern_at t.levels k in

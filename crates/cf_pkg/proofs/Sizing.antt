@@ -6,13 +6,12 @@ use Rattle.std.proofs.lemmas.Bool.{cases_eq}
 use Rattle.std.proofs.lemmas.List.Elements.{filter_more, Contains-append_cases, Contains-append_left, Contains-append_right}
 use Rattle.cf_model.specs.Renumbering.{distinct, distinct_on}
 use Rattle.cf_model.specs.Patterns.{size_at}
-use Rattle.cf_model.specs.Diagrams.{Levels, Connection, count, node, IsGood}
-use Rattle.cf_model.proofs.RenumberingLaws.{nat_decides, distinct_differ, map_map}
+use Rattle.cf_model.specs.Diagrams.{Levels, count, node, IsGood}
+use Rattle.cf_model.proofs.RenumberingLaws.{nat_decides, distinct_differ}
 use Rattle.cf_table.specs.declared.Gid.{Gid}
-use Rattle.cf_table.specs.declared.BConn.{BConn}
-use Rattle.cf_table.specs.Groupings.{Groupings, Owns, connection_of}
+use Rattle.cf_table.specs.Groupings.{Groupings, Owns, grouping_pattern}
 use Rattle.cf_build.proofs.PartLaws.{part_self}
-use Rattle.cf_pkg.specs.Sizes.{grouping_pattern, places_at, callees, ListsReached}
+use Rattle.cf_pkg.specs.Sizes.{places_at, callees, ListsReached}
 use Rattle.cf_pkg.proofs.Members.{none, mapped, from_mapped, among, from_among, passing, from_passing, distinct_has, distinct_from, distinct_on-append, entered}
 use Rattle.cf_pkg.proofs.Reaching.{part_callee, part_parent, reached_exists, counted}
 
@@ -102,7 +101,7 @@ reached_below t heads level up above places up_is h e =
 -- What the loop over levels knows when it has counted those from `level` on.
 pub record Counting (t : Groupings) (heads : List Gid) (level : ℕ) (counts above : List ℕ) : Type 0 where
   pub long : length counts ≡ 8
-  pub done : (k : ℕ) → level ≤ k → k < 8 → get_or counts k 0 ≡ size_at k (map (grouping_pattern t) heads)
+  pub done : (k : ℕ) → level ≤ k → k < 8 → get_or counts k 0 ≡ size_at k (map (grouping_pattern t.levels) heads)
   pub lists : ListsReached t.levels heads level above
 
 -- no grouping is above level 7
@@ -124,7 +123,7 @@ counting_more t g heads own level below n counts above places e top c h is_n = r
   done = λ k lo hi. elim (cases_eq k below) [
     | inl q ↦
         ap (λ (j : ℕ). get_or (slice_set counts below n) j 0) q ∙ get_or-set_same counts below n 0 (omega (arith, c.long, e, top))
-        ∙ is_n ∙ counted t g heads own below places h ∙ ap (λ (j : ℕ). size_at j (map (grouping_pattern t) heads)) (sym q)
+        ∙ is_n ∙ counted t g heads own below places h ∙ ap (λ (j : ℕ). size_at j (map (grouping_pattern t.levels) heads)) (sym q)
     | inr d ↦ get_or-set_other counts below k n 0 d ∙ c.done k (omega (arith, lo, e, d)) hi
   ];
   lists = h;

@@ -17,7 +17,7 @@ use Rattle.cf_model.proofs.Entries.{entry_below}
 use Rattle.cf_table.specs.declared.Gid.{Gid}
 use Rattle.cf_table.specs.Groupings.{pattern_of}
 use Rattle.cf_build.specs.Assembling.{HasCanon}
-use Rattle.cf_pair.specs.Products.{zip3, triple_of}
+use Rattle.cf_table.specs.Triples.{zip3, triple_of}
 use Rattle.cf_pair.proofs.Zips.{Both, Three, all_zip, all_zip3, all_labels_of}
 use Rattle.cf_pkg.specs.declared.Func.{Func}
 use Rattle.cf_pkg.specs.Packages.{Package, OwnsFunction, values_of}

@@ -6,3 +6,4 @@ pub mod Products
 pub mod Exits
 pub mod Jobs
 pub mod Sizes
+pub mod Remembering

@@ -1,10 +1,10 @@
-use Rattle.std.specs.Prelude.{ℕ, List, ◌==◌, ◌&&◌, Bool}
+use Rattle.std.specs.Prelude.{ℕ, ◌*◌, List, ◌==◌, ◌&&◌, Bool}
 use Rattle.std.specs.List.{zip}
 use Rattle.cf_model.specs.Renumbering.{rgs}
-use Rattle.cf_model.specs.Patterns.{Pattern, sub}
+use Rattle.cf_model.specs.Patterns.{Pattern, sub, work_size}
 use Rattle.cf_model.specs.PairSums.{same_pair}
-use Rattle.cf_table.specs.Groupings.{pattern_of}
-use Rattle.cf_pair.specs.Products.{zip3}
+use Rattle.cf_table.specs.Groupings.{pattern_of, grouping_pattern}
+use Rattle.cf_table.specs.Triples.{zip3}
 use Rattle.cf_pkg.specs.declared.Func.{Func}
 use Rattle.cf_pkg.specs.Packages.{Package}
 
@@ -20,3 +20,7 @@ pair_parts p f g = sub f.head.level (rgs same_pair (zip (pattern_of p.groupings 
 abbrev pub triple_parts : Package → Func → Func → Func → List Pattern
 triple_parts p f g h =
     sub f.head.level (rgs same_triple (zip3 (pattern_of p.groupings f.head) (pattern_of p.groupings g.head) (pattern_of p.groupings h.head)))
+
+-- how many steps the product of two functions' groupings may take
+abbrev pub pair_steps : Package → Func → Func → ℕ
+pair_steps p f g = 2 * (work_size (grouping_pattern p.groupings.levels f.head) * work_size (grouping_pattern p.groupings.levels g.head))

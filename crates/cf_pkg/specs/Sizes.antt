@@ -1,14 +1,8 @@
 use Rattle.std.specs.Prelude.{ℕ, ◌==◌, List, ◌∷◌, map, filter, Contains}
 use Rattle.cf_model.specs.Renumbering.{AllDiffer}
-use Rattle.cf_model.specs.Patterns.{Pattern}
 use Rattle.cf_model.specs.Diagrams.{Levels, Node}
 use Rattle.cf_table.specs.declared.Gid.{Gid}
-use Rattle.cf_table.specs.Groupings.{Groupings, pattern_of as ranks_of}
 use Rattle.cf_build.specs.Parts.{IsPart}
-
--- the pattern of a grouping, with its level
-abbrev pub grouping_pattern : Groupings → Gid → Pattern
-grouping_pattern t g = record { level = g.level; ranks = ranks_of t g }
 
 -- the places of the groupings of a level that are listed
 abbrev pub places_at : ℕ → List Gid → List ℕ

@@ -5,6 +5,7 @@ mod basics;
 mod exits;
 mod jobs;
 mod least_assignment;
+mod memo;
 mod operations;
 mod reached;
 mod walk;
@@ -25,8 +26,10 @@ use cf_table::steps::Steps;
 use cf_table::{Gid, Table};
 use cf_tuple::NoMemory;
 use cf_values::{ValueBook, Vid};
+use indexmap::IndexMap;
 pub use jobs::{Job, OpFault, Recipe};
 pub use least_assignment::{least, level_within, variables};
+use memo::JobKey;
 pub use reached::Sizes;
 use std::alloc::Global;
 use std::marker::Model;
@@ -39,24 +42,25 @@ pub struct Func {
     pub vals: Vid,
 }
 
-/// Functions of levels 0 to 7 with values of 128 bits. Equal functions have one `Func`.
+/// Functions of levels 0 to 7 with values of 128 bits. Equal functions have one `Func`. Those of
+/// constants and variables are remembered.
 #[derive(Drop)]
 pub struct Pkg {
     alloc: Global,
     table: Table,
     values: ValueBook,
+    memo: IndexMap<JobKey, Func>,
 }
 
 impl Model for Pkg {
-    ghost use Rattle.std.specs.Prelude.{All};
-    ghost use Rattle.cf_model.specs.Values.{Fits};
-    ghost use Rattle.cf_pkg.specs.Packages.{Package};
+    ghost use Rattle.cf_pkg.specs.Packages.{Package, package_of};
+    ghost use Rattle.cf_pkg.specs.Remembering.{IsSound};
 
     ghost Value = { Package };
 
-    ghost view = { λ pkg. record { groupings = pkg.table; lists = pkg.values } };
+    ghost view = { λ pkg. package_of pkg.table pkg.values };
 
-    ghost invariant = { λ pkg. All (All Fits) pkg.values };
+    ghost invariant = { λ pkg. IsSound (package_of pkg.table pkg.values) pkg.memo.entries };
 }
 
 impl Pkg {
@@ -68,6 +72,7 @@ impl Pkg {
             alloc,
             table: Table::new(alloc)?,
             values: ValueBook::new(alloc),
+            memo: IndexMap::new(alloc),
         })
     }
 
@@ -123,6 +128,21 @@ impl Pkg {
         ensures means { IfOk result (λ f. Means self.new f (tabulated level (λ bits. v))) }
         ensures kept { Keeps self.old self.new }
     {
+        let key = JobKey::Constant { level, value: v };
+        if let Some(known) = self.remembered(key) {
+            return Ok(known);
+        }
+        let made = self.make_constant(level, v)?;
+        self.remember(key, made)?;
+        Ok(made)
+    }
+
+    /// The function that is v everywhere, made anew.
+    fn make_constant(&mut self, level: u8, v: i128) -> Result<Func, NoMemory>
+        requires level { level ≤ 7 }
+        ensures means { IfOk result (λ f. Means self.new f (tabulated level (λ bits. v))) }
+        ensures kept { Keeps self.old self.new }
+    {
         self.table.law();
         let head = constant_grouping(self.alloc, &mut self.table, level)?;
         let vals = self.values.intern(&[v])?;
@@ -134,6 +154,22 @@ impl Pkg {
         requires level { level ≤ 7 }
         requires variable { i < 2 ^ level }
         ensures level { IfOk result (λ f. f.head.level ≡ level) }
+        ensures means { IfOk result (λ f. Means self.new f (variable level i)) }
+        ensures kept { Keeps self.old self.new }
+    {
+        let key = JobKey::Variable { level, position: i };
+        if let Some(known) = self.remembered(key) {
+            return Ok(known);
+        }
+        let made = self.make_variable(level, i)?;
+        self.remember(key, made)?;
+        Ok(made)
+    }
+
+    /// The function that is bit i, made anew.
+    fn make_variable(&mut self, level: u8, i: u8) -> Result<Func, NoMemory>
+        requires level { level ≤ 7 }
+        requires variable { i < 2 ^ level }
         ensures means { IfOk result (λ f. Means self.new f (variable level i)) }
         ensures kept { Keeps self.old self.new }
     {

@@ -1,6 +1,6 @@
 //! Operations on functions, point by point.
 
-ghost use Rattle.std.specs.Prelude.{◌≡◌, ◌++◌, length, IfOk};
+ghost use Rattle.std.specs.Prelude.{◌≡◌, ◌≤◌, ◌+◌, ◌++◌, length, IfOk};
 ghost use Rattle.cf_model.specs.Functions.{function_of};
 ghost use Rattle.cf_table.specs.Groupings.{Owns, exits_of};
 ghost use Rattle.cf_build.specs.Assembling.{AddsOnly};
@@ -8,7 +8,7 @@ ghost use Rattle.cf_ops.specs.Operations.{Answers1, Answers2, Answers3};
 ghost use Rattle.cf_pkg.specs.Packages.{OwnsFunction, Means, Keeps, function_parts};
 ghost use Rattle.cf_pkg.specs.Jobs.{AreLevel, map_value, apply_value, ternary_value, HasValues, IsLeastWithout};
 ghost use Rattle.cf_pkg.specs.Faults.{IfOverflow, IsFaultOf, IsExitFault};
-ghost use Rattle.cf_pkg.specs.Products.{pair_parts, triple_parts};
+ghost use Rattle.cf_pkg.specs.Products.{pair_parts, triple_parts, pair_steps};
 
 use crate::exits::{ExitFault, apply_exits, map_exits, ternary_exits};
 use crate::jobs::OpFault;
@@ -23,6 +23,10 @@ use cf_tuple::NoMemory;
 use std::marker::Brand;
 use std::sync::ledger::{Blank, Ledger};
 
+/// How many products and reductions are remembered at the end of an operation, for each grouping
+/// of the table. Where there are more they are forgotten.
+const REMEMBERED_PER_GROUPING: usize = 8;
+
 impl Pkg {
     /// The function of a grouping and a value for each of its exits, which may repeat.
     pub(crate) fn valued(&mut self, g: Gid, values: &[i128]) -> Result<Func, NoMemory>
@@ -33,6 +37,7 @@ impl Pkg {
         ensures kept { Keeps self.old self.new }
     {
         self.table.law();
+        self.table.forget_beyond(REMEMBERED_PER_GROUPING);
         let (ranks, different) = canon_of(self.alloc, values)?;
         let head = reduce(self.alloc, &mut self.table, g, ranks.as_slice())?;
         let vals = self.values.intern(different.as_slice())?;
@@ -91,6 +96,7 @@ impl Pkg {
         ensures overflow { IfOverflow result (IsLeastWithout f.head.level (apply_value self.old op.now.tree f g)) }
         ensures added { IfOk result (λ r. AddsOnly self.old.groupings.levels self.new.groupings.levels (pair_parts self.old f g ++ function_parts self.new r)) }
         ensures kept { Keeps self.old self.new }
+        ensures steps { steps.new ≤ steps.old + pair_steps self.old f g }
     {
         self.law(f);
         self.law(g);

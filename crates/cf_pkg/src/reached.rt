@@ -6,9 +6,9 @@ ghost use Rattle.std.specs.Ordering.{int_eq};
 ghost use Rattle.cf_model.specs.Renumbering.{distinct, distinct_on};
 ghost use Rattle.cf_model.specs.Patterns.{pattern_of, sizes};
 ghost use Rattle.cf_model.specs.Diagrams.{IsGood};
-ghost use Rattle.cf_table.specs.Groupings.{Owns, node_of};
+ghost use Rattle.cf_table.specs.Groupings.{Owns, node_of, grouping_pattern};
 ghost use Rattle.cf_pkg.specs.Packages.{OwnsFunction, meaning};
-ghost use Rattle.cf_pkg.specs.Sizes.{grouping_pattern, places_at, callees, ListsReached};
+ghost use Rattle.cf_pkg.specs.Sizes.{places_at, callees, ListsReached};
 
 use super::{Func, Pkg};
 use cf_table::{Gid, Table};
@@ -72,7 +72,7 @@ fn reached_at(
 /// made of.
 pub(crate) fn reached(alloc: Global, table: &Table, heads: &[Gid]) -> Result<[u64; 8], NoMemory>
     requires { All (Owns table.now) heads.now }
-    ensures { IfOk result (λ counts. counts ≡ sizes (map (grouping_pattern table.now) heads.now)) }
+    ensures { IfOk result (λ counts. counts ≡ sizes (map (grouping_pattern table.now.levels) heads.now)) }
 {
     table.law();
     let mut counts = [0_u64; 8];
@@ -125,7 +125,8 @@ impl Pkg {
     fn heads(&self, fs: &[Func]) -> Result<Vec<Gid>, NoMemory>
         requires owned { All (OwnsFunction self.now) fs.now }
         ensures owned { IfOk result (λ heads. All (Owns self.now.groupings) heads.items) }
-        ensures patterns { IfOk result (λ heads. map (grouping_pattern self.now.groupings) heads.items ≡ map (λ f. pattern_of (meaning self.now f)) fs.now) }
+        ensures patterns { IfOk result (λ heads. map (grouping_pattern self.now.groupings.levels) heads.items
+            ≡ map (λ f. pattern_of (meaning self.now f)) fs.now) }
     {
         let mut heads = Vec::new(self.alloc);
         for &f in fs {

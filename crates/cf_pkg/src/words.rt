@@ -1,12 +1,12 @@
 //! Operations on functions by their words.
 
-ghost use Rattle.std.specs.Prelude.{◌≡◌, ◌≤◌, ◌++◌, IfOk};
+ghost use Rattle.std.specs.Prelude.{◌≡◌, ◌≤◌, ◌+◌, ◌++◌, IfOk};
 ghost use Rattle.cf_build.specs.Assembling.{AddsOnly};
 ghost use Rattle.cf_ops.specs.Operations.{of_one, of_two, of_three, Answers1, Answers2};
 ghost use Rattle.cf_pkg.specs.Packages.{OwnsFunction, Keeps, function_parts};
 ghost use Rattle.cf_pkg.specs.Jobs.{AreLevel, map_value, apply_value, ternary_value, HasValues, IsLeastWithout};
 ghost use Rattle.cf_pkg.specs.Faults.{IfOverflow};
-ghost use Rattle.cf_pkg.specs.Products.{pair_parts, triple_parts};
+ghost use Rattle.cf_pkg.specs.Products.{pair_parts, triple_parts, pair_steps};
 
 use crate::jobs::OpFault;
 use crate::{Func, Pkg};
@@ -78,6 +78,7 @@ impl Pkg {
         ensures overflow { IfOverflow result (IsLeastWithout f.head.level (apply_value self.old (of_two word) f g)) }
         ensures added { IfOk result (λ r. AddsOnly self.old.groupings.levels self.new.groupings.levels (pair_parts self.old f g ++ function_parts self.new r)) }
         ensures kept { Keeps self.old self.new }
+        ensures steps { steps.new ≤ steps.old + pair_steps self.old f g }
     {
         let op = Op2::new(tree_of_two(self.alloc, word)?, call);
         self.apply(&op, f, g, steps)
@@ -112,6 +113,7 @@ impl Pkg {
         ensures overflow { IfOverflow result (IsLeastWithout f.head.level (apply_value self.old (of_two word) f g)) }
         ensures added { IfOk result (λ r. AddsOnly self.old.groupings.levels self.new.groupings.levels (pair_parts self.old f g ++ function_parts self.new r)) }
         ensures kept { Keeps self.old self.new }
+        ensures steps { steps.new ≤ steps.old + pair_steps self.old f g }
     {
         match word {
             Word2::And => self.apply_with(word, words::and, f, g, steps),

@@ -1,5 +1,5 @@
 -- Calls that stand inside one another are parentheses that are open at once.
-use Rattle.std.proofs.Common.{ℕ, ℤ, suc, ◌≡◌, ◌+◌, ◌<◌, ◌≤◌, ◌==◌, ◌&&◌, ◌||◌, max, Bool, true, false, not, cond, List, [], ◌∷◌, ◌++◌, inl, inr, take, length, Option, Some, None, refl, ap, sym, subst, ◌∙◌, arith, append_assoc, length-append}
+use Rattle.std.proofs.Common.{ℕ, zero, suc, ◌≡◌, ◌+◌, ◌<◌, ◌≤◌, ◌==◌, ◌&&◌, ◌||◌, max, Bool, true, false, not, cond, List, [], ◌∷◌, ◌++◌, inl, inr, take, length, Option, Some, None, refl, ap, sym, subst, ◌∙◌, arith, append_assoc, length-append}
 use Rattle.std.specs.List.{count_by}
 use Rattle.std.specs.Str.{bytes_eq}
 use Rattle.std.proofs.lemmas.Slice.Eq.{bytes_eq-Decides}
@@ -8,11 +8,11 @@ use Rattle.std.proofs.lemmas.List.Sums.{sum_by-cons}
 use Rattle.std.proofs.lemmas.Bool.{cases_lt, cases_Bool}
 use Rattle.cf_reference.specs.declared.grammar.Keyword.TheVariants as keyword
 use Rattle.cf_reference.specs.declared.grammar.Keyword.{Keyword}
-use Rattle.cf_reference.specs.declared.grammar.Call.{Call}
-use Rattle.cf_reference.specs.declared.grammar.Call.TheVariants as call
+use Rattle.cf_reference.specs.declared.grammar.Head.{Head}
+use Rattle.cf_reference.specs.Heads.{Kind, AnExpression, AVariable, ANatural, ANumber, ABit, head_of, kind_at}
 use Rattle.cf_reference.specs.Words.{before_comment, words, words_of_line, is_blank, is_sign, runs, begins_run, lengthen, open_sign, close_sign, comma, equals, natural, number, place, is_name}
-use Rattle.cf_reference.specs.Trees.{Tree, Trees, Num, At, Named, Const, One, Fold, Ite, none, more, depth, depths, Statement, statement_depth, statement_fits, Formed}
-use Rattle.cf_reference.specs.Grammar.{call_of, keyword_of, leaf, Calls, SpellsLeaf, SpellsConst, SpellsTree, SpellsFirst, SpellsMore, SpellsBehind, SpellsWords}
+use Rattle.cf_reference.specs.Trees.{Atom, Tree, Num, At, Named, Call, Arguments, none, more, atom, depth, depths, Statement, statement_depth, statement_fits, Formed}
+use Rattle.cf_reference.specs.Grammar.{keyword_of, leaf, atom_of, lead, Calls, SpellsLeaf, SpellsEnd, SpellsTree, SpellsArguments, SpellsBehind, SpellsWords}
 use Rattle.cf_reference.specs.LineRefusals.{IsDeep, LinesSpellFormedStatements}
 use Rattle.cf_reference.proofs.FormedLaws.{formed_behind}
 
@@ -55,17 +55,17 @@ leaf_plain : (word : List ℕ) (t : Tree) → leaf word ≡ Some t → IsPlain w
 unfolding leaf number place natural is_name
 leaf_plain word t h = plain_by leaf word t h refl refl
 
-call_plain : (word : List ℕ) (c : Call) → call_of word ≡ Some c → IsPlain word
-unfolding call_of
-call_plain word c h = plain_by call_of word c h refl refl
+head_plain : (word : List ℕ) (head : Head) → head_of word ≡ Some head → IsPlain word
+unfolding head_of
+head_plain word head h = plain_by head_of word head h refl refl
 
-natural_plain : (word : List ℕ) (n : ℤ) → natural word ≡ Some n → IsPlain word
-unfolding natural
-natural_plain word n h = plain_by natural word n h refl refl
-
-number_plain : (word : List ℕ) (n : ℤ) → number word ≡ Some n → IsPlain word
-unfolding number natural
-number_plain word n h = plain_by number word n h refl refl
+atom_plain : (kind : Kind) (word : List ℕ) (a : Atom) → atom_of kind word ≡ Some a → IsPlain word
+unfolding atom_of place number natural is_name
+atom_plain AnExpression word a h = plain_by (atom_of AnExpression) word a h refl refl
+atom_plain AVariable word a h = plain_by (atom_of AVariable) word a h refl refl
+atom_plain ANatural word a h = plain_by (atom_of ANatural) word a h refl refl
+atom_plain ANumber word a h = plain_by (atom_of ANumber) word a h refl refl
+atom_plain ABit word a h = plain_by (atom_of ABit) word a h refl refl
 
 keyword_plain : (word : List ℕ) (k : Keyword) → keyword_of word ≡ Some k → IsPlain word
 unfolding keyword_of
@@ -123,9 +123,9 @@ plain_before word d extra all rest p s = record {
     opened_balance = omega (arith, opened_plain word s.whole p, closed_plain word s.whole p, s.balanced)
 
 -- a call: its word and `(` before what ends in `)`
-call_shape : (c : Call) (d : ℕ) (all inside rest : List (List ℕ)) → Calls c all inside → Shape d 1 inside rest → Shape (d + 1) 0 all rest
-call_shape c d all inside rest h s =
-    let p = call_plain h.word c h.is in
+call_shape : (head : Head) (d : ℕ) (all inside rest : List (List ℕ)) → Calls head all inside → Shape d 1 inside rest → Shape (d + 1) 0 all rest
+call_shape head d all inside rest h s =
+    let p = head_plain h.word head h.is in
     record {
       whole = h.word ∷ open_sign ∷ s.whole;
       consumed = h.words ∙ ap (λ l. h.word ∷ open_sign ∷ l) s.consumed;
@@ -139,12 +139,14 @@ call_shape c d all inside rest h s =
 close_shape : (all rest : List (List ℕ)) → all ≡ close_sign ∷ rest → Shape 0 1 all rest
 close_shape all rest h = record { whole = close_sign ∷ []; consumed = h; balanced = refl; front = []; back = all; is = refl; reaches = omega arith }
 
-const_shape : (j v : ℤ) (all rest : List (List ℕ)) → SpellsConst j v all rest → Shape 0 1 all rest
-const_shape j v all rest h =
-    subst (λ a. Shape 0 1 a rest) (sym h.words)
-    (plain_before h.first 0 1 (comma ∷ h.second ∷ close_sign ∷ rest) rest (natural_plain h.first j h.level)
-    (plain_before comma 0 1 (h.second ∷ close_sign ∷ rest) rest (record { opens = refl; closes = refl })
-    (plain_before h.second 0 1 (close_sign ∷ rest) rest (number_plain h.second v h.value) (close_shape (close_sign ∷ rest) rest refl))))
+end_shape : (i : ℕ) (all rest : List (List ℕ)) → SpellsEnd i all rest → Shape 0 1 all rest
+end_shape zero all rest h = absurd h
+end_shape (suc i) all rest h = close_shape all rest h
+
+lead_shape : (i d extra : ℕ) (all after rest : List (List ℕ)) → all ≡ lead i ++ after → Shape d extra after rest → Shape d extra all rest
+lead_shape zero d extra all after rest is s = subst (λ a. Shape d extra a rest) (sym is) s
+lead_shape (suc i) d extra all after rest is s =
+    subst (λ a. Shape d extra a rest) (sym is) (plain_before comma d extra after rest (record { opens = refl; closes = refl }) s)
 
 -- one after the other
 join_shape : (d e extra : ℕ) (all mid rest : List (List ℕ)) → Shape d 0 all mid → Shape e extra mid rest → Shape (max d e) extra all rest
@@ -178,41 +180,37 @@ join_shape d e extra all mid rest s t = elim (cases_lt d e) [ inl less ↦ later
       reaches = omega (arith, s.reaches, most);
     }
 
-max_zero : (d : ℕ) → max d 0 ≡ d
-max_zero d = omega arith
-
 mutual
   shape : (t : Tree) (all rest : List (List ℕ)) → SpellsTree t all rest → Shape (depth t) 0 all rest
   shape (Num n) all rest h = leaf_shape (Num n) all rest h
   shape (At n) all rest h = leaf_shape (At n) all rest h
   shape (Named name) all rest h = leaf_shape (Named name) all rest h
-  shape (Const level n) all rest h = call_shape call.Const 0 all h.0 rest h.1 (const_shape level n h.0 rest h.2)
-  shape (One word e) all rest h =
-      call_shape (call.One word) (depth e) all h.0 rest h.1
-      (subst (λ d. Shape d 1 h.0 rest) (max_zero (depth e)) (join_shape (depth e) 0 1 h.0 (close_sign ∷ rest) rest (shape e h.0 (close_sign ∷ rest) h.2) (close_shape (close_sign ∷ rest) rest refl)))
-  shape (Fold word es) all rest h = call_shape (call.Fold word) (depths es) all h.0 rest h.1 (shape_first es h.0 rest h.3)
-  shape (Ite es) all rest h = call_shape call.Ite (depths es) all h.0 rest h.1 (shape_first es h.0 rest h.3)
+  shape (Call head es) all rest h = call_shape head (depths es) all h.0 rest h.1 (arguments_shape es head 0 h.0 rest h.3)
 
-  shape_first : (ts : Trees) (all rest : List (List ℕ)) → SpellsFirst ts all rest → Shape (depths ts) 1 all rest
-  shape_first none all rest h = absurd h
-  shape_first (more t ts) all rest h = join_shape (depth t) (depths ts) 1 all h.0 rest (shape t all h.0 h.1) (shape_more ts h.0 rest h.2)
+  arguments_shape : (es : Arguments) (head : Head) (i : ℕ) (all rest : List (List ℕ)) → SpellsArguments head i es all rest → Shape (depths es) 1 all rest
+  arguments_shape none head i all rest h = end_shape i all rest h
+  arguments_shape (more e es) head i all rest h =
+      lead_shape i (depths (more e es)) 1 all h.1 rest h.2
+      (join_shape (depth e) (depths es) 1 h.1 h.3 rest (shape e h.1 h.3 h.4) (arguments_shape es head (suc i) h.3 rest h.5))
+  arguments_shape (atom a es) head i all rest h =
+      lead_shape i (depths es) 1 all (h.1.word ∷ h.0) rest h.1.words
+      (plain_before h.1.word (depths es) 1 h.0 rest (atom_plain (kind_at head i) h.1.word a h.1.is) (arguments_shape es head (suc i) h.0 rest h.2))
 
-  shape_more : (ts : Trees) (all rest : List (List ℕ)) → SpellsMore ts all rest → Shape (depths ts) 1 all rest
-  shape_more none all rest h = close_shape all rest h
-  shape_more (more t ts) all rest h =
-      subst (λ a. Shape (depths (more t ts)) 1 a rest) (sym h.1)
-      (plain_before comma (depths (more t ts)) 1 h.0 rest (record { opens = refl; closes = refl })
-      (join_shape (depth t) (depths ts) 1 h.0 h.2 rest (shape t h.0 h.2 h.3) (shape_more ts h.2 rest h.4)))
+closes_one : (whole : List (List ℕ)) → closed whole ≡ opened whole + 1 → 1 ≤ length whole
+closes_one [] e = absurd (omega (arith, e))
+closes_one (word ∷ whole) e = omega arith
 
--- what comes after it is no longer than the words
-pub tree-shorter : (t : Tree) (all rest : List (List ℕ)) → SpellsTree t all rest → length rest ≤ length all
-tree-shorter t all rest h = let s = shape t all rest h in omega (arith, ap length s.consumed, length-append s.whole rest)
+-- what comes after it is shorter than the words
+pub arguments-shorter : (es : Arguments) (head : Head) (i : ℕ) (all rest : List (List ℕ)) → SpellsArguments head i es all rest → length rest < length all
+arguments-shorter es head i all rest h =
+    let s = arguments_shape es head i all rest h in
+    omega (arith, ap length s.consumed, length-append s.whole rest, closes_one s.whole s.balanced)
 
-pub first-shorter : (ts : Trees) (all rest : List (List ℕ)) → SpellsFirst ts all rest → length rest ≤ length all
-first-shorter ts all rest h = let s = shape_first ts all rest h in omega (arith, ap length s.consumed, length-append s.whole rest)
-
-pub more-shorter : (ts : Trees) (all rest : List (List ℕ)) → SpellsMore ts all rest → length rest ≤ length all
-more-shorter ts all rest h = let s = shape_more ts all rest h in omega (arith, ap length s.consumed, length-append s.whole rest)
+pub tree-shorter : (t : Tree) (all rest : List (List ℕ)) → SpellsTree t all rest → length rest < length all
+tree-shorter (Num n) all rest h = omega (arith, ap length h.words)
+tree-shorter (At n) all rest h = omega (arith, ap length h.words)
+tree-shorter (Named name) all rest h = omega (arith, ap length h.words)
+tree-shorter (Call head es) all rest h = omega (arith, ap length h.1.words, arguments-shorter es head 0 h.0 rest h.3)
 
 -- a front of bytes that has the parentheses of a front of words
 record HasFront (text : List ℕ) (front : List (List ℕ)) : Type 0 where

@@ -9,14 +9,14 @@ use Rattle.std.proofs.lemmas.List.Sums.{fails_before_first, passes_at_first}
 use Rattle.std.proofs.lemmas.Option.{slice_get-get_or, slice_get_past, same_Some, none-some}
 use Rattle.cf_model.specs.Assignments.{number_of, bits_of, all_bits}
 use Rattle.cf_model.specs.FlatFunctions.{IsAssignment, IsLeast}
-use Rattle.cf_model.specs.declared.terms.Word1.{Word1}
-use Rattle.cf_model.specs.declared.terms.Word2.{Word2}
 use Rattle.cf_model.proofs.AssignmentLaws.{number_of-below, number_of-bits_of, bits_of-number_of, length-bits_of, length-all_bits, all_bits-order}
 use Rattle.cf_model.proofs.FlatFunctionLaws.{least_unique}
-use Rattle.cf_reference.specs.Trees.{Tree, Trees, Num, At, Named, Const, One, Fold, Ite, none, more}
+use Rattle.cf_reference.specs.declared.grammar.Head.{Head}
+use Rattle.cf_reference.specs.Trees.{Tree, Num, At, Named, Call, Arguments, none, more, atom, Atom}
 use Rattle.cf_reference.specs.States.{State}
-use Rattle.cf_reference.specs.Expressions.{value}
-use Rattle.cf_reference.specs.Failures.{Part, failure, first_failure, whole, joint, parts, all_parts, step_parts, over, over_all, over_steps, FailuresAreLeast, FailsFirst, OverflowIsFirst}
+use Rattle.cf_reference.specs.Calls.{Part, flat, Meant, Function}
+use Rattle.cf_reference.specs.Expressions.{part, meant_atom}
+use Rattle.cf_reference.specs.Failures.{failure, first_failure, nested, parts, argument_parts, over, over_arguments, FailuresAreLeast, FailsFirst, OverflowIsFirst}
 
 -- the least assignment of a level that passes a test, and what there is where there is none
 abbrev pub least : ℕ → (List Bool → Bool) → Option (List Bool)
@@ -160,59 +160,40 @@ with_last ps p = first_failure-append ps (p ∷ []) ∙ ap (option_or (first_fai
 
 -- a number and a position have values everywhere
 pub over-Num : (s : State) (n : ℤ) → over s (Num n) ≡ None
-unfolding parts value
-over-Num s n = or_none (failure (whole s (Num n))) ∙ failure-never (whole s (Num n)) (λ bits a. (n, refl))
+unfolding parts part
+over-Num s n = or_none (failure (part s (Num n))) ∙ failure-never (part s (Num n)) (λ bits a. (n, refl))
 
 pub over-At : (s : State) (i : ℤ) → over s (At i) ≡ None
-unfolding parts value
-over-At s i = or_none (failure (whole s (At i))) ∙ failure-never (whole s (At i)) (λ bits a. (_, refl))
+unfolding parts part
+over-At s i = or_none (failure (part s (At i))) ∙ failure-never (part s (At i)) (λ bits a. (_, refl))
 
-pub over-Const : (s : State) (j n : ℤ) → over s (Const j n) ≡ None
-unfolding parts value
-over-Const s j n = or_none (failure (whole s (Const j n))) ∙ failure-never (whole s (Const j n)) (λ bits a. (n, refl))
-
-pub over-Named : (s : State) (name : List ℕ) → over s (Named name) ≡ failure (whole s (Named name))
+pub over-Named : (s : State) (name : List ℕ) → over s (Named name) ≡ failure (part s (Named name))
 unfolding parts
-over-Named s name = or_none (failure (whole s (Named name)))
+over-Named s name = or_none (failure (part s (Named name)))
 
--- a call of one
-pub over-One : (s : State) (word : Word1) (e : Tree)
-    → over s (One word e) ≡ option_or (over s e) (failure (whole s (One word e)))
+-- a call: its arguments, and then itself
+pub over-Call : (s : State) (head : Head) (es : Arguments)
+    → over s (Call head es) ≡ option_or (over_arguments s head [] es) (failure (part s (Call head es)))
 unfolding parts
-over-One s word e = with_last (parts s e) (whole s (One word e))
+over-Call s head es = with_last (argument_parts s head [] es) (part s (Call head es))
 
--- a choice
-pub over-Ite : (s : State) (es : Trees) → over s (Ite es) ≡ option_or (over_all s es) (failure (whole s (Ite es)))
+pub over_arguments-none : (s : State) (head : Head) (done : List Meant) → over_arguments s head done none ≡ None
 unfolding parts
-over-Ite s es = with_last (all_parts s es) (whole s (Ite es))
+over_arguments-none s head done = refl
 
-pub over_all-none : (s : State) → over_all s none ≡ None
+pub over_arguments-more : (s : State) (head : Head) (done : List Meant) (e : Tree) (es : Arguments)
+    → over_arguments s head done (more e es) ≡ option_or (first_failure (nested head done)) (option_or (over s e) (over_arguments s head (done ++ Function (flat (part s e)) ∷ []) es))
 unfolding parts
-over_all-none s = refl
+over_arguments-more s head done e es =
+    let later = argument_parts s head (done ++ Function (flat (part s e)) ∷ []) es in
+    first_failure-append (nested head done) (parts s e ++ later)
+    ∙ ap (option_or (first_failure (nested head done))) (first_failure-append (parts s e) later)
 
-pub over_all-more : (s : State) (e : Tree) (es : Trees) → over_all s (more e es) ≡ option_or (over s e) (over_all s es)
+pub over_arguments-atom : (s : State) (head : Head) (done : List Meant) (a : Atom) (es : Arguments)
+    → over_arguments s head done (atom a es) ≡ option_or (first_failure (nested head done)) (over_arguments s head (done ++ meant_atom s a ∷ []) es)
 unfolding parts
-over_all-more s e es = first_failure-append (parts s e) (all_parts s es)
-
--- a fold: its first argument, and then each further one with its step
-pub over-Fold : (s : State) (word : Word2) (e : Tree) (es : Trees)
-    → over s (Fold word (more e es)) ≡ option_or (over s e) (over_steps s word (whole s e) es)
-unfolding parts
-over-Fold s word e es = first_failure-append (parts s e) (step_parts s word (whole s e) es)
-
-pub over-Fold-none : (s : State) (word : Word2) → over s (Fold word none) ≡ None
-unfolding parts
-over-Fold-none s word = refl
-
-pub over_steps-none : (s : State) (word : Word2) (first : Part) → over_steps s word first none ≡ None
-unfolding parts
-over_steps-none s word first = refl
-
-pub over_steps-more : (s : State) (word : Word2) (first : Part) (e : Tree) (es : Trees)
-    → over_steps s word first (more e es) ≡ option_or (over s e) (option_or (failure (joint s word first e)) (over_steps s word (joint s word first e) es))
-unfolding parts
-over_steps-more s word first e es =
-    first_failure-append (parts s e) (joint s word first e ∷ step_parts s word (joint s word first e) es)
+over_arguments-atom s head done a es =
+    first_failure-append (nested head done) (argument_parts s head (done ++ meant_atom s a ∷ []) es)
 
 pub failures_least : FailuresAreLeast
 failures_least part = by (failure part) refl

@@ -1,12 +1,14 @@
 -- The grammar on worked lines.
 use Rattle.std.proofs.Common.{◌≡◌, ◌∷◌, ◌++◌, [], true, false, refl, Some, None, arith}
-use Rattle.std.specs.Prelude.{codes, pos, negsuc}
+use Rattle.std.specs.Prelude.{ℕ, List, codes, pos, negsuc}
 use Rattle.cf_model.specs.declared.terms.Word1.TheVariants.{Not}
 use Rattle.cf_model.specs.declared.terms.Word2.TheVariants.{And, Minus, Plus}
 use Rattle.cf_reference.specs.declared.grammar.Keyword.TheVariants as keyword
 use Rattle.cf_reference.specs.Words.{before_comment, words, words_of_line, open_sign, close_sign, comma, natural, number, place, is_name, is_bits}
-use Rattle.cf_reference.specs.Trees.{Num, At, Named, Const, One, Fold, none, more, takes, depth, statement_fits, Empty, Level, Vars, Let, Value}
-use Rattle.cf_reference.specs.Grammar.{call_of, keyword_of, leaf, Spells}
+use Rattle.cf_reference.specs.declared.grammar.Head.TheVariants.{Const, One, Fold}
+use Rattle.cf_reference.specs.Heads.{AVariable, ABit, head_of, takes}
+use Rattle.cf_reference.specs.Trees.{Variable, Position, Number, Num, At, Named, Call, none, more, atom, depth, statement_fits, Empty, Level, Vars, Let, Value}
+use Rattle.cf_reference.specs.Grammar.{keyword_of, leaf, atom_of, Spells}
 use Rattle.cf_reference.specs.LineRefusals.{IsDeep, Good, Malformed, WideNumber, TooDeep}
 use Rattle.cf_reference.specs.Parsing.{readers, statement_at, is_deep, parse}
 
@@ -54,26 +56,42 @@ let_and = record {
   words = (keyword.Let, refl, (codes "and", At (pos 0), codes "@0" ∷ [], refl, refl, record { word = codes "@0"; words = refl; alone = refl; is = refl }, refl));
 }
 
+abbrev const_words : List (List ℕ)
+const_words = codes "const" ∷ open_sign ∷ codes "2" ∷ comma ∷ codes "-1" ∷ close_sign ∷ close_sign ∷ []
+
 -- a blank may stand before `(`
-let_call : Spells (codes "let f = not (const(2,-1))") (Let (codes "f") (One Not (Const (pos 2) (negsuc 0))))
-unfolding before_comment words keyword_of call_of number natural is_name
+let_call : Spells (codes "let f = not (const(2,-1))") (Let (codes "f") (Call (One Not) (more (Call Const (atom (Number (pos 2)) (atom (Number (negsuc 0)) none))) none)))
+unfolding before_comment words keyword_of head_of atom_of number natural is_name
 let_call = record {
   words = (
     keyword.Let,
     refl,
     (
       codes "f",
-      One Not (Const (pos 2) (negsuc 0)),
-      codes "not" ∷ open_sign ∷ codes "const" ∷ open_sign ∷ codes "2" ∷ comma ∷ codes "-1" ∷ close_sign ∷ close_sign ∷ [],
+      Call (One Not) (more (Call Const (atom (Number (pos 2)) (atom (Number (negsuc 0)) none))) none),
+      codes "not" ∷ open_sign ∷ const_words,
       refl,
       refl,
       (
-        codes "const" ∷ open_sign ∷ codes "2" ∷ comma ∷ codes "-1" ∷ close_sign ∷ close_sign ∷ [],
+        const_words,
         record { word = codes "not"; words = refl; is = refl },
+        refl,
         (
-          codes "2" ∷ comma ∷ codes "-1" ∷ close_sign ∷ close_sign ∷ [],
-          record { word = codes "const"; words = refl; is = refl },
-          record { first = codes "2"; second = codes "-1"; words = refl; level = refl; value = refl },
+          refl,
+          const_words,
+          refl,
+          close_sign ∷ [],
+          (
+            codes "2" ∷ comma ∷ codes "-1" ∷ close_sign ∷ close_sign ∷ [],
+            record { word = codes "const"; words = refl; is = refl },
+            refl,
+            (
+              comma ∷ codes "-1" ∷ close_sign ∷ close_sign ∷ [],
+              record { word = codes "2"; words = refl; is = refl },
+              (close_sign ∷ close_sign ∷ [], record { word = codes "-1"; words = refl; is = refl }, refl),
+            ),
+          ),
+          refl,
         ),
       ),
       refl,
@@ -82,11 +100,11 @@ let_call = record {
 }
 
 -- a fold of one argument is none, and `minus` takes exactly two
-arguments : (takes And 1 ≡ false) × (takes And 3 ≡ true) × (takes Minus 3 ≡ false)
+arguments : (takes (Fold And) 1 ≡ false) × (takes (Fold And) 3 ≡ true) × (takes (Fold Minus) 3 ≡ false)
 arguments = (refl, refl, refl)
 
 -- a fold of any length is one call
-one_call : depth (Fold Plus (more (Num (pos 1)) (more (Num (pos 2)) (more (Num (pos 3)) none)))) ≡ 1
+one_call : depth (Call (Fold Plus) (more (Num (pos 1)) (more (Num (pos 2)) (more (Num (pos 3)) none)))) ≡ 1
 one_call = refl
 
 -- sixty-five open parentheses are too deep, whatever comes after them
@@ -106,13 +124,13 @@ vars_line : (parse (codes "var a b") ≡ Good (Vars (codes "a" ∷ codes "b" ∷
 unfolding before_comment words is_deep statement_at keyword_of is_name
 vars_line = (refl, refl, refl)
 
-fold_line : parse (codes "let f = and(x,@1)") ≡ Good (Let (codes "f") (Fold And (more (Named (codes "x")) (more (At (pos 1)) none))))
-unfolding before_comment words is_deep statement_at readers keyword_of call_of leaf number place natural is_name
+fold_line : parse (codes "let f = and(x,@1)") ≡ Good (Let (codes "f") (Call (Fold And) (more (Named (codes "x")) (more (At (pos 1)) none))))
+unfolding before_comment words is_deep statement_at readers keyword_of head_of leaf atom_of number place natural is_name
 fold_line = refl
 
 -- a fold of one argument, three arguments of `minus`, a word behind the expression, and a form that isn't built
-malformed_lines : (parse (codes "let f = and(x)") ≡ Malformed) × (parse (codes "let f = minus(1,2,3)") ≡ Malformed) × (parse (codes "let f = x y") ≡ Malformed) × (parse (codes "let f = exists(x,y)") ≡ Malformed)
-unfolding before_comment words is_deep statement_at readers keyword_of call_of leaf number place natural is_name
+malformed_lines : (parse (codes "let f = and(x)") ≡ Malformed) × (parse (codes "let f = minus(1,2,3)") ≡ Malformed) × (parse (codes "let f = x y") ≡ Malformed) × (parse (codes "let f = matmul(x,y)") ≡ Malformed)
+unfolding before_comment words is_deep statement_at readers keyword_of head_of leaf atom_of number place natural is_name
 malformed_lines = (refl, refl, refl, refl)
 
 -- a number that doesn't fit yields to a line's form, and both yield to its parentheses
@@ -121,3 +139,17 @@ refused_lines : (parse (codes "level 170141183460469231731687303715884105728") �
     × (parse (codes "x (((((((((((((((((((((((((((((((((((((((((((((((((((((((((((((((( 9") ≡ Malformed)
 unfolding before_comment words is_deep statement_at keyword_of natural
 refused_lines = (refl, refl, refl, refl)
+
+-- variables, by names and by positions, and bits
+variables : (atom_of AVariable (codes "x") ≡ Some (Variable (codes "x"))) × (atom_of AVariable (codes "@1") ≡ Some (Position (pos 1))) × (atom_of AVariable (codes "1") ≡ None)
+unfolding atom_of place natural is_name
+variables = (refl, refl, refl)
+
+bits_alone : (atom_of ABit (codes "1") ≡ Some (Number (pos 1))) × (atom_of ABit (codes "01") ≡ None)
+unfolding atom_of
+bits_alone = (refl, refl)
+
+-- a word that calls nothing
+no_head : parse (codes "let f = restrict(x,y,1)") ≡ Malformed
+unfolding before_comment words is_deep statement_at readers keyword_of head_of leaf atom_of number place natural is_name
+no_head = refl

@@ -1,5 +1,5 @@
 -- What a word of one kind isn't.
-use Rattle.std.proofs.Common.{ℕ, ℤ, pos, neg_ℤ, ◌≡◌, ◌≤ℤ◌, ◌==◌, ◌&&◌, nat_le, Bool, true, false, cond, List, [], ◌∷◌, length, Option, Some, None, refl, sym, subst, ◌∙◌, arith}
+use Rattle.std.proofs.Common.{ℕ, ℤ, pos, neg_ℤ, ◌≡◌, ◌≤ℤ◌, ◌==◌, ◌&&◌, nat_le, Bool, true, false, cond, List, [], ◌∷◌, length, Option, Some, None, refl, ap, sym, subst, ◌∙◌, arith}
 use Rattle.std.specs.Char.{is_ascii_digit}
 use Rattle.std.specs.List.{list_all}
 use Rattle.std.specs.Option.{option_map}
@@ -7,6 +7,10 @@ use Rattle.std.proofs.lemmas.Bool.{and_parts, eqb-true}
 use Rattle.std.proofs.lemmas.Bool.Decides.{nat_tests}
 use Rattle.std.proofs.lemmas.Int.{ints}
 use Rattle.cf_reference.specs.Words.{begins_name, decimal_value, natural, number, place, is_name}
+use Rattle.std.specs.Str.{bytes_eq}
+use Rattle.std.proofs.lemmas.Slice.Eq.{bytes_eq-Decides}
+use Rattle.cf_reference.specs.declared.grammar.Head.{Head}
+use Rattle.cf_reference.specs.Heads.{table, found_in, head_of}
 use Rattle.cf_reference.specs.Trees.{Num, At, Named}
 use Rattle.cf_reference.specs.Grammar.{leaf, leaf_of_place, leaf_of_number}
 
@@ -140,3 +144,20 @@ place_rest (b ∷ rest) n h = at (b == 64) h
 -- a position is not below 0
 pub place-low : (word : List ℕ) (n : ℤ) → place word ≡ Some n → pos 0 ≤ℤ n
 place-low word n h = let r = place_rest word n h in natural-low r.0 n r.1
+
+-- each word of the table is a name
+named_in : (entries : List (List ℕ × Head)) → list_all (λ entry. is_name entry.0) entries ≡ true → (word : List ℕ) (head : Head) → found_in entries word ≡ Some head
+    → is_name word ≡ true
+named_in [] names word head h = cc
+named_in (entry ∷ later) names word head h =
+    let both = and_parts (is_name entry.0) (list_all (λ e. is_name e.0) later) names in
+    at (bytes_eq word entry.0) refl both.0 (named_in later both.1 word head) h
+  where
+    at : (t : Bool) → bytes_eq word entry.0 ≡ t → is_name entry.0 ≡ true → (found_in later word ≡ Some head → is_name word ≡ true)
+        → cond t (Some entry.1) (found_in later word) ≡ Some head → is_name word ≡ true
+    at true is name below k = ap is_name ((bytes_eq-Decides word entry.0).0 is) ∙ name
+    at false is name below k = below k
+
+pub head-name : (word : List ℕ) (head : Head) → head_of word ≡ Some head → is_name word ≡ true
+unfolding head_of is_name
+head-name word head h = named_in table refl word head h

@@ -13,6 +13,7 @@ pub mod ParsingLaws
 pub mod ScriptLaws
 pub mod GivesLaws
 pub mod StepLaws
+pub mod FitLaws
 pub mod StateLaws
 pub mod RunStateLaws
 pub mod NameLaws

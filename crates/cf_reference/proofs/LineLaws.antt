@@ -1,6 +1,6 @@
 use Rattle.std.proofs.Common.{ℕ, ◌≡◌, ◌+◌, ◌-◌, ◌<◌, ◌≤◌, ◌&&◌, nat_lt, nat_le, cond, Bool, true, false, List, [], ◌∷◌, ◌++◌, ◌⊎◌, inl, inr, length, refl, ap, sym, ◌∙◌, arith, length-append}
 use Rattle.std.proofs.lemmas.Bool.{ne_eqb, ltb-true, ltb-false, leb-true, leb-false}
-use Rattle.cf_reference.specs.Lines.{Line, line_end, size, put_first, lines, NoNewline, Fits, LineTooLong, ScriptTooLong, fit}
+use Rattle.cf_reference.specs.Lines.{Line, line_end, size, put_first, lines, NoNewline, Fits, LineTooLong, ScriptTooLong, fit, line_limit, script_limit}
 
 -- bytes without a newline, one after the other
 pub plain_append : (a b : List ℕ) → NoNewline a → NoNewline b → NoNewline (a ++ b)
@@ -47,35 +47,35 @@ lines_front b (c ∷ front) rest p =
 
 -- the script may end behind the line, or it is so far from its longest that the line's own length decides
 abbrev pub HasRoom : ℕ → Line → Type 0
-HasRoom before line = (before + size line ≤ 1073741824) ⊎ (65536 < 1073741824 - before)
+HasRoom before line = (before + size line ≤ script_limit) ⊎ (line_limit < script_limit - before)
 
 -- what a line's fare tells of its length
 pub record TellsScript (before : ℕ) (line : Line) : Type 0 where
   pub is : fit before line ≡ ScriptTooLong
-  pub over : 1073741824 < before + size line
-  pub near : 1073741824 - before ≤ 65536
+  pub over : script_limit < before + size line
+  pub near : script_limit - before ≤ line_limit
 
 pub record TellsLine (before : ℕ) (line : Line) : Type 0 where
   pub is : fit before line ≡ LineTooLong
   pub room : HasRoom before line
-  pub long : 65536 < length line.bytes
+  pub long : line_limit < length line.bytes
 
 pub record TellsFits (before : ℕ) (line : Line) : Type 0 where
   pub is : fit before line ≡ Fits
   pub room : HasRoom before line
-  pub short : length line.bytes ≤ 65536
+  pub short : length line.bytes ≤ line_limit
 
 pub fit_tells : (before : ℕ) (line : Line) → TellsScript before line ⊎ (TellsLine before line ⊎ TellsFits before line)
-fit_tells before line = by (nat_lt 1073741824 (before + size line)) (nat_le (1073741824 - before) 65536) (nat_lt 65536 (length line.bytes)) refl refl refl
+fit_tells before line = by (nat_lt script_limit (before + size line)) (nat_le (script_limit - before) line_limit) (nat_lt line_limit (length line.bytes)) refl refl refl
   where
-    is : (x y z : Bool) → nat_lt 1073741824 (before + size line) ≡ x → nat_le (1073741824 - before) 65536 ≡ y → nat_lt 65536 (length line.bytes) ≡ z
+    is : (x y z : Bool) → nat_lt script_limit (before + size line) ≡ x → nat_le (script_limit - before) line_limit ≡ y → nat_lt line_limit (length line.bytes) ≡ z
         → fit before line ≡ cond (x && y) ScriptTooLong (cond z LineTooLong Fits)
     is x y z ex ey ez =
-        ap (λ t. cond (t && nat_le (1073741824 - before) 65536) ScriptTooLong (cond (nat_lt 65536 (length line.bytes)) LineTooLong Fits)) ex
-        ∙ ap (λ t. cond (x && t) ScriptTooLong (cond (nat_lt 65536 (length line.bytes)) LineTooLong Fits)) ey
+        ap (λ t. cond (t && nat_le (script_limit - before) line_limit) ScriptTooLong (cond (nat_lt line_limit (length line.bytes)) LineTooLong Fits)) ex
+        ∙ ap (λ t. cond (x && t) ScriptTooLong (cond (nat_lt line_limit (length line.bytes)) LineTooLong Fits)) ey
         ∙ ap (λ t. cond (x && y) ScriptTooLong (cond t LineTooLong Fits)) ez
 
-    by : (x y z : Bool) → nat_lt 1073741824 (before + size line) ≡ x → nat_le (1073741824 - before) 65536 ≡ y → nat_lt 65536 (length line.bytes) ≡ z
+    by : (x y z : Bool) → nat_lt script_limit (before + size line) ≡ x → nat_le (script_limit - before) line_limit ≡ y → nat_lt line_limit (length line.bytes) ≡ z
         → TellsScript before line ⊎ (TellsLine before line ⊎ TellsFits before line)
     by true true z ex ey ez = inl (record { is = is true true z ex ey ez; over = ltb-true _ _ ex; near = leb-true _ _ ey })
     by true false true ex ey ez = inr (inl (record { is = is true false true ex ey ez; room = inr (leb-false _ _ ey); long = ltb-true _ _ ez }))
@@ -127,23 +127,23 @@ is_fitting before line e = elim (fit_tells before line) [
     apart_line : LineTooLong ≡ Fits → ⊥
     apart_line p = cc
 
-no_room : (before : ℕ) (line : Line) → HasRoom before line → 1073741824 < before + size line → 1073741824 - before ≤ 65536 → ⊥
+no_room : (before : ℕ) (line : Line) → HasRoom before line → script_limit < before + size line → script_limit - before ≤ line_limit → ⊥
 no_room before line room over near = elim room [ inl r ↦ omega (arith, r) | inr r ↦ omega (arith, r) ]
 
-over_from : (before : ℕ) (line : Line) → 1073741824 < before + size line → 1073741824 - before ≤ 65536 → fit before line ≡ ScriptTooLong
+over_from : (before : ℕ) (line : Line) → script_limit < before + size line → script_limit - before ≤ line_limit → fit before line ≡ ScriptTooLong
 over_from before line over near = elim (fit_tells before line) [
   | inl t ↦ t.is
   | inr s ↦ elim s [ inl t ↦ absurd (no_room before line t.room over near) | inr t ↦ absurd (no_room before line t.room over near) ]
 ]
 
-long_from : (before : ℕ) (line : Line) → HasRoom before line → 65536 < length line.bytes → fit before line ≡ LineTooLong
+long_from : (before : ℕ) (line : Line) → HasRoom before line → line_limit < length line.bytes → fit before line ≡ LineTooLong
 long_from before line room long = elim (fit_tells before line) [
   | inl t ↦ absurd (no_room before line room t.over t.near)
   | inr s ↦ elim s [ inl t ↦ t.is | inr t ↦ let short = t.short in absurd (omega arith) ]
 ]
 
 -- a line that fits ends within the longest script
-pub fits_within : (before : ℕ) (line : Line) → before ≤ 1073741824 → fit before line ≡ Fits → before + size line ≤ 1073741824
+pub fits_within : (before : ℕ) (line : Line) → before ≤ script_limit → fit before line ≡ Fits → before + size line ≤ script_limit
 fits_within before line h e =
     let t = is_fitting before line e in
     let short = t.short in

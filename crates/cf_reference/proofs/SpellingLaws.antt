@@ -1,24 +1,18 @@
 -- What is spelled by a word and what stands behind it.
-use Rattle.std.proofs.Common.{ℕ, ℤ, ◌≡◌, Bool, true, false, cond, List, [], ◌∷◌, Option, Some, None, refl, ap, sym, subst}
+use Rattle.std.proofs.Common.{ℕ, ℤ, ◌≡◌, Bool, true, false, cond, List, [], ◌∷◌, Option, Some, None, refl, ap, sym}
+use Rattle.std.specs.Prelude.{IsTrue}
 use Rattle.std.specs.Str.{bytes_eq}
 use Rattle.std.proofs.lemmas.Slice.Eq.{bytes_eq-Decides}
-use Rattle.cf_reference.specs.declared.grammar.Call.{Call}
-use Rattle.cf_reference.specs.declared.grammar.Call.TheVariants as call
+use Rattle.cf_reference.specs.declared.grammar.Head.{Head}
+use Rattle.cf_reference.specs.Heads.{head_of, takes}
 use Rattle.cf_reference.specs.Words.{number, place, is_name, open_sign}
-use Rattle.cf_reference.specs.Trees.{Tree, Num, At, Named, Const, One, Fold, Ite}
-use Rattle.cf_reference.specs.Grammar.{call_of, leaf, leaf_of_place, leaf_of_number, opens, SpellsLeaf, SpellsTree, SpellsInside}
+use Rattle.cf_reference.specs.Trees.{Tree, Num, At, Named, Call, Arguments, count}
+use Rattle.cf_reference.specs.Grammar.{leaf, leaf_of_place, leaf_of_number, opens, SpellsLeaf, SpellsTree, SpellsArguments}
 
--- a call is spelled by its word, `(`, and what is spelled behind it
-pub spells-call : (c : Call) (t : Tree) (word : List ℕ) (all inside rest : List (List ℕ)) → all ≡ word ∷ open_sign ∷ inside → call_of word ≡ Some c → SpellsInside c t inside rest
-    → SpellsTree t all rest
-spells-call call.Const t word all inside rest is of h =
-    subst (λ u. SpellsTree u all rest) (sym h.2) (inside, record { word = word; words = is; is = of }, h.3)
-spells-call (call.One op) t word all inside rest is of h =
-    subst (λ u. SpellsTree u all rest) (sym h.1) (inside, record { word = word; words = is; is = of }, h.2)
-spells-call (call.Fold op) t word all inside rest is of h =
-    subst (λ u. SpellsTree u all rest) (sym h.1) (inside, record { word = word; words = is; is = of }, h.2, h.3)
-spells-call call.Ite t word all inside rest is of h =
-    subst (λ u. SpellsTree u all rest) (sym h.1) (inside, record { word = word; words = is; is = of }, h.2, h.3)
+-- a call is spelled by its head's word, `(`, and what is spelled behind it
+pub spells-call : (head : Head) (es : Arguments) (word : List ℕ) (all inside rest : List (List ℕ)) → all ≡ word ∷ open_sign ∷ inside
+    → head_of word ≡ Some head → IsTrue (takes head (count es)) → SpellsArguments head 0 es inside rest → SpellsTree (Call head es) all rest
+spells-call head es word all inside rest is of number h = (inside, record { word = word; words = is; is = of }, number, h)
 
 -- a word that no `(` follows
 pub not-open : (next : List (List ℕ)) → ((x : List (List ℕ)) → next ≡ open_sign ∷ x → ⊥) → opens next ≡ false
@@ -55,7 +49,4 @@ pub spells-leaf : (t : Tree) (all rest : List (List ℕ)) → SpellsLeaf t all r
 spells-leaf (Num n) all rest h k = h
 spells-leaf (At n) all rest h k = h
 spells-leaf (Named name) all rest h k = h
-spells-leaf (Const level n) all rest h k = cc
-spells-leaf (One word t) all rest h k = cc
-spells-leaf (Fold word ts) all rest h k = cc
-spells-leaf (Ite ts) all rest h k = cc
+spells-leaf (Call head es) all rest h k = cc

@@ -15,6 +15,9 @@ pub and_then_some : {A B : Type 0} (o : Option A) (f : A → Option B) (y : B)
 and_then_some None f y e = absurd (none-some y e)
 and_then_some (Some x) f y e = (x, refl, e)
 
+pub some_none : {A : Type 0} (x : A) → Some x ≡ None → ⊥
+some_none x e = none-some x (sym e)
+
 pub or_none_first : {A : Type 0} (a b : Option A) → option_or a b ≡ None → a ≡ None
 or_none_first None b e = refl
 or_none_first (Some x) b e = e

@@ -1,12 +1,13 @@
-use Rattle.std.specs.Prelude.{ℕ, ℤ, pos, ◌+◌, ◌^◌, ◌==◌, ◌&&◌, ◌||◌, nat_le, int_le, nat_abs, not, Bool, List, [], ◌++◌, length, Option, Some, None, unwrap_or}
+use Rattle.std.specs.Prelude.{ℕ, ℤ, pos, ◌+◌, ◌^◌, ◌==◌, ◌&&◌, ◌||◌, nat_le, int_le, nat_abs, not, Bool, List, [], ◌++◌, length, Option, Some, None}
 use Rattle.std.specs.List.{list_any}
 use Rattle.std.specs.Option.{option_or, option_map}
-use Rattle.cf_model.specs.FlatFunctions.{FlatFunction, tabulated}
+use Rattle.cf_model.specs.FlatFunctions.{FlatFunction}
 use Rattle.cf_reference.specs.Trees.{Tree, Statement, Empty, Level, Vars, Let, Value, First, Listed, Equal, Size, Stats}
 use Rattle.cf_reference.specs.Reasons.{Refusal, NoLevel, LevelAgain, NoName, Taken, TooManyVariables, LevelsDiffer, BadLevel, OutOfRange, Overflow, unless}
 use Rattle.cf_reference.specs.Replies.{value_reply}
 use Rattle.cf_reference.specs.States.{State, level_in, is_below, is_among, bind, is_bound, repeats, function_of, at}
-use Rattle.cf_reference.specs.Expressions.{level, value, walk}
+use Rattle.cf_reference.specs.Calls.{flat}
+use Rattle.cf_reference.specs.Expressions.{part, walk}
 use Rattle.cf_reference.specs.Failures.{over}
 use Rattle.cf_reference.specs.Answers.{spelled, first_answer, list_answer, equal_answer, size_answer, stats_answer}
 
@@ -68,7 +69,7 @@ refusal_of s t = refusal_at s.level s t
 
 -- the flat function of an expression that has a value everywhere
 abbrev pub function_from : State → Tree → FlatFunction
-function_from s e = tabulated (level s e) (λ bits. unwrap_or (value s e bits) (pos 0))
+function_from s e = flat (part s e)
 
 -- the state that a statement leads to
 abbrev pub next : State → Statement → State

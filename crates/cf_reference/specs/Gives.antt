@@ -1,9 +1,9 @@
 use Rattle.std.specs.Prelude.{◌≡◌, Bool, List}
 use Rattle.cf_model.specs.FlatFunctions.{IsAssignment, FlatFunction, IsFlatFunction, value_at}
-use Rattle.cf_model.specs.declared.terms.Word2.{Word2}
-use Rattle.cf_reference.specs.Trees.{Tree, Trees, none, more}
+use Rattle.cf_reference.specs.Trees.{Tree}
 use Rattle.cf_reference.specs.States.{State}
-use Rattle.cf_reference.specs.Failures.{Part, whole, joint}
+use Rattle.cf_reference.specs.Calls.{Part}
+use Rattle.cf_reference.specs.Expressions.{part}
 
 -- A flat function is a subexpression's: it has the level, and at each assignment the value.
 pub record Gives (part : Part) (f : FlatFunction) : Type 0 where
@@ -13,9 +13,4 @@ pub record Gives (part : Part) (f : FlatFunction) : Type 0 where
 
 -- a flat function is an expression's
 abbrev pub GivesTree : State → Tree → FlatFunction → Type 0
-GivesTree s e f = Gives (whole s e) f
-
--- a fold's steps one after another, from what is folded before them
-abbrev pub joint_all : State → Word2 → Part → Trees → Part
-joint_all s word first none = first
-joint_all s word first (more e es) = joint_all s word (joint s word first e) es
+GivesTree s e f = Gives (part s e) f

@@ -1,35 +1,15 @@
-use Rattle.std.specs.Prelude.{ℕ, ℤ, ◌≡◌, ◌==◌, nat_le, Bool, false, List, [], ◌∷◌, length, Option, Some, None, IsTrue, if◌then◌else◌, codes}
+use Rattle.std.specs.Prelude.{ℕ, zero, suc, ℤ, pos, ◌≡◌, nat_le, Bool, false, List, [], ◌∷◌, ◌++◌, length, Option, Some, None, IsTrue, if◌then◌else◌, codes}
 use Rattle.std.specs.List.{list_all}
+use Rattle.std.specs.Option.{option_map}
 use Rattle.std.specs.Str.{bytes_eq}
-use Rattle.cf_model.specs.declared.terms.Word1.TheVariants.{Not, Neg}
-use Rattle.cf_model.specs.declared.terms.Word2.TheVariants.{And, Or, Xor, Plus, Minus, Times, Min, Max, Eq, Lt}
 use Rattle.cf_reference.specs.declared.grammar.Keyword.{Keyword}
 use Rattle.cf_reference.specs.declared.grammar.Keyword.TheVariants as keyword
-use Rattle.cf_reference.specs.declared.grammar.Call.{Call}
-use Rattle.cf_reference.specs.declared.grammar.Call.TheVariants as call
+use Rattle.cf_reference.specs.declared.grammar.Head.{Head}
+use Rattle.cf_reference.specs.Heads.{Kind, AnExpression, AVariable, ANatural, ANumber, ABit, head_of, takes, kind_at}
 use Rattle.cf_reference.specs.Words.{words_of_line, open_sign, close_sign, comma, equals, natural, number, place, is_name, is_bits}
-use Rattle.cf_reference.specs.Trees.{Tree, Trees, Num, At, Named, Const, One, Fold, Ite, none, more, count, takes, Statement, Empty, Level, Vars, Let, Value, First, Listed, Equal, Size, Stats}
+use Rattle.cf_reference.specs.Trees.{Atom, Variable, Position, Number, Tree, Num, At, Named, Call, Arguments, none, more, atom, count, Statement, Empty, Level, Vars, Let, Value, First, Listed, Equal, Size, Stats}
 
 -- The grammar of a line, over its words.
-
--- what a word before `(` calls
-unfoldable pub call_of : List ℕ → Option Call
-call_of word =
-    if bytes_eq word (codes "const") then Some call.Const
-    else if bytes_eq word (codes "not") then Some (call.One Not)
-    else if bytes_eq word (codes "neg") then Some (call.One Neg)
-    else if bytes_eq word (codes "and") then Some (call.Fold And)
-    else if bytes_eq word (codes "or") then Some (call.Fold Or)
-    else if bytes_eq word (codes "xor") then Some (call.Fold Xor)
-    else if bytes_eq word (codes "plus") then Some (call.Fold Plus)
-    else if bytes_eq word (codes "minus") then Some (call.Fold Minus)
-    else if bytes_eq word (codes "times") then Some (call.Fold Times)
-    else if bytes_eq word (codes "min") then Some (call.Fold Min)
-    else if bytes_eq word (codes "max") then Some (call.Fold Max)
-    else if bytes_eq word (codes "eq") then Some (call.Fold Eq)
-    else if bytes_eq word (codes "lt") then Some (call.Fold Lt)
-    else if bytes_eq word (codes "ite") then Some call.Ite
-    else None
 
 -- what the first word of a line says
 unfoldable pub keyword_of : List ℕ → Option Keyword
@@ -71,19 +51,45 @@ pub record SpellsLeaf (e : Tree) (all rest : List (List ℕ)) : Type 0 where
   pub alone : opens rest ≡ false
   pub is : leaf word ≡ Some e
 
--- the words begin with the call's word and `(`, and the rest comes after it
-pub record Calls (call : Call) (all rest : List (List ℕ)) : Type 0 where
+-- the words begin with the head's word and `(`, and the rest comes after it
+pub record Calls (head : Head) (all rest : List (List ℕ)) : Type 0 where
   pub word : List ℕ
   pub words : all ≡ word ∷ open_sign ∷ rest
-  pub is : call_of word ≡ Some call
+  pub is : head_of word ≡ Some head
 
--- the words begin with a NATURAL, a comma, a NUMBER and `)`, and the rest comes after them
-pub record SpellsConst (j v : ℤ) (all rest : List (List ℕ)) : Type 0 where
-  pub first : List ℕ
-  pub second : List ℕ
-  pub words : all ≡ first ∷ comma ∷ second ∷ close_sign ∷ rest
-  pub level : natural first ≡ Some j
-  pub value : number second ≡ Some v
+-- an atom of a kind, as a word
+abbrev pub variable_of : List ℕ → Option ℤ → Option Atom
+variable_of word None = if is_name word then Some (Variable word) else None
+variable_of word (Some i) = Some (Position i)
+
+abbrev pub bit_of : List ℕ → Option Atom
+bit_of word =
+    if bytes_eq word (codes "0") then Some (Number (pos 0))
+    else if bytes_eq word (codes "1") then Some (Number (pos 1))
+    else None
+
+unfoldable pub atom_of : Kind → List ℕ → Option Atom
+atom_of AnExpression word = None
+atom_of AVariable word = variable_of word (place word)
+atom_of ANatural word = option_map Number (natural word)
+atom_of ANumber word = option_map Number (number word)
+atom_of ABit word = bit_of word
+
+-- what stands before the argument at place i: a comma, but nothing before the first
+abbrev pub lead : ℕ → List (List ℕ)
+lead zero = []
+lead (suc i) = comma ∷ []
+
+-- what stands behind i arguments: `)`, and there is at least one
+abbrev pub SpellsEnd : ℕ → List (List ℕ) → List (List ℕ) → Type 0
+SpellsEnd zero all rest = ⊥
+SpellsEnd (suc i) all rest = all ≡ close_sign ∷ rest
+
+-- the words begin with what leads to place i, and an atom of the kind, and the rest comes after it
+pub record SpellsAtom (i : ℕ) (kind : Kind) (a : Atom) (all rest : List (List ℕ)) : Type 0 where
+  pub word : List ℕ
+  pub words : all ≡ lead i ++ word ∷ rest
+  pub is : atom_of kind word ≡ Some a
 
 -- The words begin with an expression, by cases on its tree, and the rest comes after it.
 abbrev mutual
@@ -91,33 +97,17 @@ abbrev mutual
   SpellsTree (Num n) all rest = SpellsLeaf (Num n) all rest
   SpellsTree (At n) all rest = SpellsLeaf (At n) all rest
   SpellsTree (Named name) all rest = SpellsLeaf (Named name) all rest
-  SpellsTree (Const level n) all rest =
-      (inside : List (List ℕ)) × Calls call.Const all inside × SpellsConst level n inside rest
-  SpellsTree (One word e) all rest =
-      (inside : List (List ℕ)) × Calls (call.One word) all inside × SpellsTree e inside (close_sign ∷ rest)
-  SpellsTree (Fold word es) all rest =
-      (inside : List (List ℕ)) × Calls (call.Fold word) all inside × IsTrue (takes word (count es)) × SpellsFirst es inside rest
-  SpellsTree (Ite es) all rest =
-      (inside : List (List ℕ)) × Calls call.Ite all inside × IsTrue (count es == 3) × SpellsFirst es inside rest
+  SpellsTree (Call head es) all rest =
+      (inside : List (List ℕ)) × Calls head all inside × IsTrue (takes head (count es)) × SpellsArguments head 0 es inside rest
 
-  -- one argument at least, and `)`
-  pub SpellsFirst : Trees → List (List ℕ) → List (List ℕ) → Type 0
-  SpellsFirst none all rest = ⊥
-  SpellsFirst (more e es) all rest = (mid : List (List ℕ)) × SpellsTree e all mid × SpellsMore es mid rest
-
-  -- further arguments, each behind a comma, and `)`
-  pub SpellsMore : Trees → List (List ℕ) → List (List ℕ) → Type 0
-  SpellsMore none all rest = all ≡ close_sign ∷ rest
-  SpellsMore (more e es) all rest =
-      (after : List (List ℕ)) × (all ≡ comma ∷ after) × (mid : List (List ℕ)) × SpellsTree e after mid × SpellsMore es mid rest
-
--- The words behind a call's `(` spell what is called, and the rest comes after its `)`.
-abbrev pub SpellsInside : Call → Tree → List (List ℕ) → List (List ℕ) → Type 0
-SpellsInside call.Const e all rest = (level : ℤ) × (n : ℤ) × (e ≡ Const level n) × SpellsConst level n all rest
-SpellsInside (call.One word) e all rest = (only : Tree) × (e ≡ One word only) × SpellsTree only all (close_sign ∷ rest)
-SpellsInside (call.Fold word) e all rest =
-    (es : Trees) × (e ≡ Fold word es) × IsTrue (takes word (count es)) × SpellsFirst es all rest
-SpellsInside call.Ite e all rest = (es : Trees) × (e ≡ Ite es) × IsTrue (count es == 3) × SpellsFirst es all rest
+  -- the arguments of a call from place i on, and `)`
+  pub SpellsArguments : Head → ℕ → Arguments → List (List ℕ) → List (List ℕ) → Type 0
+  SpellsArguments head i none all rest = SpellsEnd i all rest
+  SpellsArguments head i (more e es) all rest =
+      (kind_at head i ≡ AnExpression) × (after : List (List ℕ)) × (all ≡ lead i ++ after)
+      × (mid : List (List ℕ)) × SpellsTree e after mid × SpellsArguments head (suc i) es mid rest
+  SpellsArguments head i (atom a es) all rest =
+      (mid : List (List ℕ)) × SpellsAtom i (kind_at head i) a all mid × SpellsArguments head (suc i) es mid rest
 
 -- The words behind the first one spell the statement, by cases on what the first one says.
 abbrev pub SpellsBehind : Keyword → Statement → List (List ℕ) → Type 0

@@ -1,11 +1,13 @@
 pub mod Lines
 pub mod Replies
 pub mod Words
+pub mod Heads
 pub mod Trees
 pub mod Grammar
 pub mod LineRefusals
 pub mod Reasons
 pub mod States
+pub mod Calls
 pub mod Expressions
 pub mod Failures
 pub mod Parsing

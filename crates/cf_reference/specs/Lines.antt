@@ -26,6 +26,14 @@ abbrev pub NoNewline : List ℕ → Type 0
 NoNewline [] = Unit {0}
 NoNewline (b ∷ bytes) = (b ≢ 10) × NoNewline bytes
 
+-- the most bytes of a line, without its newline
+abbrev pub line_limit : ℕ
+line_limit = 65536
+
+-- the most bytes of a script
+abbrev pub script_limit : ℕ
+script_limit = 1073741824
+
 -- how a line fares by its length
 pub data Fit : Type 0 where
   Fits : Fit
@@ -36,12 +44,12 @@ pub data Fit : Type 0 where
 -- line or is its newline, and no earlier byte was the line's byte 65,537; else a line with a byte 65,537 is too long.
 abbrev pub fit : ℕ → Line → Fit
 fit before line =
-    if nat_lt 1073741824 (before + size line) && nat_le (1073741824 - before) 65536 then ScriptTooLong
-    else if nat_lt 65536 (length line.bytes) then LineTooLong
+    if nat_lt script_limit (before + size line) && nat_le (script_limit - before) line_limit then ScriptTooLong
+    else if nat_lt line_limit (length line.bytes) then LineTooLong
     else Fits
 
 -- how many bytes of the script have to be read until it is known how the line fares
 abbrev pub known_by : ℕ → Line → Fit → ℕ
 known_by before line Fits = before + length line.bytes
-known_by before line LineTooLong = before + 65537
-known_by before line ScriptTooLong = 1073741825
+known_by before line LineTooLong = before + (line_limit + 1)
+known_by before line ScriptTooLong = script_limit + 1

@@ -2,75 +2,50 @@ use Rattle.std.specs.Prelude.{ℕ, zero, suc, ℤ, ◌+◌, ◌==◌, ◌&&◌, 
 use Rattle.std.specs.List.{list_all}
 use Rattle.std.specs.Option.{option_map}
 use Rattle.std.specs.Str.{bytes_eq}
-use Rattle.cf_model.specs.declared.terms.Word1.{Word1}
-use Rattle.cf_model.specs.declared.terms.Word2.{Word2}
 use Rattle.cf_reference.specs.declared.grammar.Keyword.{Keyword}
 use Rattle.cf_reference.specs.declared.grammar.Keyword.TheVariants as keyword
-use Rattle.cf_reference.specs.declared.grammar.Call.{Call}
-use Rattle.cf_reference.specs.declared.grammar.Call.TheVariants as call
+use Rattle.cf_reference.specs.declared.grammar.Head.{Head}
+use Rattle.cf_reference.specs.Heads.{Kind, AnExpression, head_of, takes, kind_at}
 use Rattle.cf_reference.specs.Words.{before_comment, words, open_sign, close_sign, comma, equals, natural, number, is_name, is_bits}
-use Rattle.cf_reference.specs.Trees.{Tree, Trees, Const, One, Fold, Ite, none, more, count, takes, Statement, Empty, Level, Vars, Let, Value, First, Listed, Equal, Size, Stats, statement_fits}
-use Rattle.cf_reference.specs.Grammar.{call_of, keyword_of, leaf}
+use Rattle.cf_reference.specs.Trees.{Atom, Tree, Arguments, Call, none, more, atom, count, Statement, Empty, Level, Vars, Let, Value, First, Listed, Equal, Size, Stats, statement_fits}
+use Rattle.cf_reference.specs.Grammar.{keyword_of, leaf, atom_of}
 use Rattle.cf_reference.specs.LineRefusals.{Parsed, TooDeep, Malformed, WideNumber, Good, Parses}
 
 -- What a line comes to, worked out from its words. It is what the relation `Parses` says of the line.
 
--- a tree, or a list of trees, that words begin with, and the words behind it
+-- a tree, or arguments, that words begin with, and the words behind it
 abbrev pub TreeAt : Type 0
 TreeAt = Option (Tree × List (List ℕ))
 
-abbrev pub TreesAt : Type 0
-TreesAt = Option (Trees × List (List ℕ))
+abbrev pub ArgumentsAt : Type 0
+ArgumentsAt = Option (Arguments × List (List ℕ))
 
--- the tree whose `)` comes next
-abbrev pub closing : Tree → List (List ℕ) → TreeAt
-closing e [] = None
-closing e (word ∷ rest) = if bytes_eq word close_sign then Some (e, rest) else None
-
-abbrev pub one_of : Word1 → TreeAt → TreeAt
-one_of op None = None
-one_of op (Some found) = closing (One op found.0) found.1
-
-abbrev pub fold_of : Word2 → TreesAt → TreeAt
-fold_of op None = None
-fold_of op (Some found) = if takes op (count found.0) then Some (Fold op found.0, found.1) else None
-
-abbrev pub ite_of : TreesAt → TreeAt
-ite_of None = None
-ite_of (Some found) = if count found.0 == 3 then Some (Ite found.0, found.1) else None
-
-abbrev pub const_of : Option ℤ → Option ℤ → List (List ℕ) → TreeAt
-const_of (Some level) (Some n) rest = Some (Const level n, rest)
-const_of level n rest = None
-
-abbrev pub const_at : List (List ℕ) → TreeAt
-const_at (first ∷ sign ∷ second ∷ end ∷ rest) =
-    if bytes_eq sign comma && bytes_eq end close_sign then const_of (natural first) (number second) rest else None
-const_at other = None
-
--- the first tree of a list, before the others
-abbrev pub before : Tree → TreesAt → TreesAt
+-- the first argument of a list, before the others
+abbrev pub before : Tree → ArgumentsAt → ArgumentsAt
 before e None = None
 before e (Some found) = Some (more e found.0, found.1)
 
-abbrev pub followed : (List (List ℕ) → TreesAt) → TreeAt → TreesAt
-followed more_at None = None
-followed more_at (Some found) = before found.0 (more_at found.1)
+abbrev pub followed : (List (List ℕ) → ArgumentsAt) → TreeAt → ArgumentsAt
+followed later None = None
+followed later (Some found) = before found.0 (later found.1)
 
--- how the trees within a tree are found
+abbrev pub atom_before : Option Atom → ArgumentsAt → ArgumentsAt
+atom_before (Some a) (Some found) = Some (atom a found.0, found.1)
+atom_before a found = None
+
+-- a call of arguments
+abbrev pub taken : Head → ArgumentsAt → TreeAt
+taken head None = None
+taken head (Some found) = if takes head (count found.0) then Some (Call head found.0, found.1) else None
+
+-- how the trees and arguments within a tree are found
 pub record Readers : Type 0 where
   pub tree_at : List (List ℕ) → TreeAt
-  pub more_at : List (List ℕ) → TreesAt
+  pub arguments_at : Head → ℕ → List (List ℕ) → ArgumentsAt
 
-abbrev pub inside_at : Readers → Call → List (List ℕ) → TreeAt
-inside_at r call.Const all = const_at all
-inside_at r (call.One op) all = one_of op (r.tree_at all)
-inside_at r (call.Fold op) all = fold_of op (followed r.more_at (r.tree_at all))
-inside_at r call.Ite all = ite_of (followed r.more_at (r.tree_at all))
-
-abbrev pub called_at : Readers → Option Call → List (List ℕ) → TreeAt
+abbrev pub called_at : Readers → Option Head → List (List ℕ) → TreeAt
 called_at r None all = None
-called_at r (Some c) all = inside_at r c all
+called_at r (Some head) all = taken head (r.arguments_at head 0 all)
 
 abbrev pub alone_at : Option Tree → List (List ℕ) → TreeAt
 alone_at None rest = None
@@ -80,19 +55,29 @@ abbrev pub read_tree : Readers → List (List ℕ) → TreeAt
 read_tree r [] = None
 read_tree r (word ∷ []) = alone_at (leaf word) []
 read_tree r (word ∷ next ∷ rest) =
-    if bytes_eq next open_sign then called_at r (call_of word) rest else alone_at (leaf word) (next ∷ rest)
+    if bytes_eq next open_sign then called_at r (head_of word) rest else alone_at (leaf word) (next ∷ rest)
 
-abbrev pub read_more : Readers → List (List ℕ) → TreesAt
-read_more r [] = None
-read_more r (word ∷ rest) =
+-- an argument of a kind, and what comes behind it
+abbrev pub read_atom : Kind → (List (List ℕ) → ArgumentsAt) → List (List ℕ) → ArgumentsAt
+read_atom kind later [] = None
+read_atom kind later (word ∷ rest) = atom_before (atom_of kind word) (later rest)
+
+abbrev pub read_argument : Readers → Kind → (List (List ℕ) → ArgumentsAt) → List (List ℕ) → ArgumentsAt
+read_argument r AnExpression later all = followed later (r.tree_at all)
+read_argument r other later all = read_atom other later all
+
+abbrev pub read_arguments : Readers → Head → ℕ → List (List ℕ) → ArgumentsAt
+read_arguments r head zero all = read_argument r (kind_at head 0) (r.arguments_at head 1) all
+read_arguments r head (suc i) [] = None
+read_arguments r head (suc i) (word ∷ rest) =
     if bytes_eq word close_sign then Some (none, rest)
-    else if bytes_eq word comma then followed r.more_at (r.tree_at rest)
+    else if bytes_eq word comma then read_argument r (kind_at head (suc i)) (r.arguments_at head (suc (suc i))) rest
     else None
 
--- how trees are found that stand in not more than so many words
+-- how they are found where they stand in not more than so many words
 unfoldable pub readers : ℕ → Readers
-readers zero = record { tree_at = λ all. None; more_at = λ all. None }
-readers (suc k) = record { tree_at = read_tree (readers k); more_at = read_more (readers k) }
+readers zero = record { tree_at = λ all. None; arguments_at = λ head i all. None }
+readers (suc k) = record { tree_at = read_tree (readers k); arguments_at = read_arguments (readers k) }
 
 -- the definition of a name by all words of an expression
 abbrev pub defined : List ℕ → TreeAt → Option Statement

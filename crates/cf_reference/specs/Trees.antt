@@ -1,11 +1,20 @@
-use Rattle.std.specs.Prelude.{ℕ, ℤ, pos, ◌+◌, ◌≤◌, ◌≤ℤ◌, ◌==◌, ◌&&◌, max, nat_le, Bool, true, List, length, IsTrue}
+use Rattle.std.specs.Prelude.{◌≡◌, ℕ, suc, ℤ, pos, ◌+◌, ◌≤◌, ◌≤ℤ◌, ◌&&◌, ◌||◌, max, Bool, true, List, length, IsTrue}
+use Rattle.std.specs.Ordering.{int_eq}
 use Rattle.cf_model.specs.Values.{Fits, fits}
-use Rattle.cf_model.specs.declared.terms.Word1.{Word1}
-use Rattle.cf_model.specs.declared.terms.Word2.{Word2}
-use Rattle.cf_model.specs.declared.terms.Word2.TheVariants.{Minus, Eq, Lt}
+use Rattle.cf_reference.specs.declared.grammar.Head.{Head}
+use Rattle.cf_reference.specs.Heads.{Kind, AnExpression, AVariable, ANatural, ANumber, ABit, kind_at, takes}
 use Rattle.cf_reference.specs.Words.{is_bits}
 
 -- Expressions and statements as trees; their numbers may be of any size.
+
+-- an argument that is one word
+pub data Atom : Type 0 where
+  -- a variable by its name
+  Variable : List ℕ → Atom
+  -- a variable by its position
+  Position : ℤ → Atom
+  Number : ℤ → Atom
+
 mutual
   pub data Tree : Type 0 where
     -- a number
@@ -14,15 +23,13 @@ mutual
     At : ℤ → Tree
     -- a variable or a function
     Named : List ℕ → Tree
-    -- a number at a level
-    Const : ℤ → ℤ → Tree
-    One : Word1 → Tree → Tree
-    Fold : Word2 → Trees → Tree
-    Ite : Trees → Tree
+    Call : Head → Arguments → Tree
 
-  pub data Trees : Type 0 where
-    none : Trees
-    more : Tree → Trees → Trees
+  -- each an expression or an atom
+  pub data Arguments : Type 0 where
+    none : Arguments
+    more : Tree → Arguments → Arguments
+    atom : Atom → Arguments → Arguments
 
 pub data Statement : Type 0 where
   Empty : Statement
@@ -36,16 +43,10 @@ pub data Statement : Type 0 where
   Size : List ℕ → Statement
   Stats : Statement
 
-abbrev pub count : Trees → ℕ
+abbrev pub count : Arguments → ℕ
 count none = 0
 count (more e es) = count es + 1
-
--- Whether a fold takes so many arguments: `minus`, `eq` and `lt` take two, the others two or more.
-abbrev pub takes : Word2 → ℕ → Bool
-takes Minus n = n == 2
-takes Eq n = n == 2
-takes Lt n = n == 2
-takes other n = nat_le 2 n
+count (atom a es) = count es + 1
 
 -- how many calls stand inside one another; a fold of any length is one call
 abbrev mutual
@@ -53,18 +54,21 @@ abbrev mutual
   depth (Num n) = 0
   depth (At n) = 0
   depth (Named name) = 0
-  depth (Const level n) = 1
-  depth (One word e) = depth e + 1
-  depth (Fold word es) = depths es + 1
-  depth (Ite es) = depths es + 1
+  depth (Call head es) = depths es + 1
 
-  pub depths : Trees → ℕ
+  pub depths : Arguments → ℕ
   depths none = 0
   depths (more e es) = max (depth e) (depths es)
+  depths (atom a es) = depths es
 
 abbrev pub statement_depth : Statement → ℕ
 statement_depth (Let name e) = depth e
 statement_depth other = 0
+
+abbrev pub atom_fits : Atom → Bool
+atom_fits (Variable name) = true
+atom_fits (Position i) = fits i
+atom_fits (Number n) = fits n
 
 -- whether each number fits in 128 signed bits
 abbrev mutual
@@ -72,14 +76,12 @@ abbrev mutual
   tree_fits (Num n) = fits n
   tree_fits (At n) = fits n
   tree_fits (Named name) = true
-  tree_fits (Const level n) = fits level && fits n
-  tree_fits (One word e) = tree_fits e
-  tree_fits (Fold word es) = trees_fit es
-  tree_fits (Ite es) = trees_fit es
+  tree_fits (Call head es) = arguments_fit es
 
-  pub trees_fit : Trees → Bool
-  trees_fit none = true
-  trees_fit (more e es) = tree_fits e && trees_fit es
+  pub arguments_fit : Arguments → Bool
+  arguments_fit none = true
+  arguments_fit (more e es) = tree_fits e && arguments_fit es
+  arguments_fit (atom a es) = atom_fits a && arguments_fit es
 
 abbrev pub statement_fits : Statement → Bool
 statement_fits (Level n) = fits n
@@ -92,20 +94,28 @@ statement_fits other = true
 abbrev pub IsNatural : ℤ → Type 0
 IsNatural n = (pos 0 ≤ℤ n) × Fits n
 
--- The numbers of arguments and the ranges of numbers are those of the grammar.
+-- an atom of a kind, with its number in range
+abbrev pub IsFormedAtom : Kind → Atom → Type 0
+IsFormedAtom AVariable (Variable name) = Unit {0}
+IsFormedAtom AVariable (Position i) = IsNatural i
+IsFormedAtom ANatural (Number n) = IsNatural n
+IsFormedAtom ANumber (Number n) = Fits n
+IsFormedAtom ABit (Number n) = IsTrue (int_eq n (pos 0) || int_eq n (pos 1))
+IsFormedAtom kind a = ⊥
+
+-- The numbers of arguments, their kinds and the ranges of numbers are those of the grammar.
 abbrev mutual
   pub IsFormed : Tree → Type 0
   IsFormed (Num n) = Fits n
   IsFormed (At n) = IsNatural n
   IsFormed (Named name) = Unit {0}
-  IsFormed (Const level n) = IsNatural level × Fits n
-  IsFormed (One word e) = IsFormed e
-  IsFormed (Fold word es) = IsTrue (takes word (count es)) × AreFormed es
-  IsFormed (Ite es) = IsTrue (count es == 3) × AreFormed es
+  IsFormed (Call head es) = IsTrue (takes head (count es)) × AreFormed head 0 es
 
-  pub AreFormed : Trees → Type 0
-  AreFormed none = Unit {0}
-  AreFormed (more e es) = IsFormed e × AreFormed es
+  -- arguments, the first of which stands at place i
+  pub AreFormed : Head → ℕ → Arguments → Type 0
+  AreFormed head i none = Unit {0}
+  AreFormed head i (more e es) = (kind_at head i ≡ AnExpression) × IsFormed e × AreFormed head (suc i) es
+  AreFormed head i (atom a es) = IsFormedAtom (kind_at head i) a × AreFormed head (suc i) es
 
 -- the same for a statement, with its lists that aren't empty and its BITS
 abbrev pub IsFormedStatement : Statement → Type 0

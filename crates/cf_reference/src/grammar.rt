@@ -27,7 +27,7 @@ pub enum Keyword {
 
 /// What a word before `(` calls.
 #[derive(Clone, Copy, PartialEq, Eq, Debug)]
-pub enum Call {
+pub enum Head {
     /// `const(J, V)`
     Const,
     /// An operation on one expression.
@@ -36,4 +36,16 @@ pub enum Call {
     Fold(Word2),
     /// `ite(E, E, E)`
     Ite,
+}
+
+/// What an argument of a call is.
+#[derive(Clone, Copy, PartialEq, Eq, Debug)]
+pub enum Kind {
+    Expression,
+    /// `@` and a position, or a name.
+    Variable,
+    Natural,
+    Number,
+    /// `0` or `1`.
+    Bit,
 }

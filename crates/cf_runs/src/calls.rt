@@ -5,7 +5,7 @@ use cf_ops::{Term, Word2};
 use cf_pkg::{Job, OpFault, Pkg, Recipe};
 use cf_table::laws::base_groupings;
 use cf_table::{DONT_CARE, Gid, Table};
-use cf_tuple::{compose, distinct_of, rgs_of};
+use cf_tuple::{Tid, TupleBook, compose, distinct_of, rgs_of};
 use cf_values::ValueBook;
 use sqlite_items::Items;
 use std::alloc::Global;
@@ -45,6 +45,21 @@ fn lists_are_renumbered_and_composed(rt: HostRuntime) -> Result<(), Fail> {
         compose(alloc, &[8, 6, 4], &[2, 0, 0])?.as_slice(),
         [4, 8, 8].as_slice()
     );
+    Ok(())
+}
+
+#[test]
+fn many_lists_keep_their_ids(rt: HostRuntime) -> Result<(), Fail> {
+    let mut book = TupleBook::new(rt.alloc());
+    for entry in 0..400_000 {
+        assert_eq!(rt; book.intern(&[entry])?, Tid { at: entry });
+    }
+    for entry in 0..400_000 {
+        let id = book.intern(&[entry])?;
+        assert_eq!(rt; id, Tid { at: entry });
+        assert!(rt; book.owns(id));
+        assert_eq!(rt; book.get(id), [entry].as_slice());
+    }
     Ok(())
 }
 

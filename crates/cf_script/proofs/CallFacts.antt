@@ -1,23 +1,31 @@
 -- From the parts of an expression that were read to the whole of it.
-use Rattle.std.proofs.Common.{ℕ, ◌≡◌, ◌==◌, true, false, List, [], ◌∷◌, length, Option, Some, None, Result, Ok, Err, refl, ap, sym, subst, ◌∙◌}
-use Rattle.std.specs.Option.{ok_or, IfNone}
+use Rattle.std.proofs.Common.{ℕ, zero, suc, ◌≡◌, ◌≤◌, Bool, ◌&&◌, true, false, List, [], ◌∷◌, ◌++◌, length, Option, Some, None, Result, Ok, Err, refl, ap, sym, subst, ◌∙◌, arith}
+use Rattle.std.specs.Prelude.{IsTrue}
 use Rattle.std.specs.Result.{IsErrAnd}
-use Rattle.std.proofs.lemmas.Bool.{eqb-true}
-use Rattle.cf_model.specs.declared.terms.Word1.{Word1}
-use Rattle.cf_model.specs.declared.terms.Word2.{Word2}
-use Rattle.cf_reference.specs.declared.grammar.Call.{Call}
-use Rattle.cf_reference.specs.declared.grammar.Call.TheVariants as call
-use Rattle.cf_reference.specs.Words.{open_sign, close_sign}
-use Rattle.cf_reference.specs.Trees.{Tree, Num, At, Named, Const, One, Fold, Ite, count, takes}
-use Rattle.cf_reference.specs.Grammar.{call_of, leaf, SpellsLeaf, SpellsTree}
+use Rattle.std.proofs.lemmas.Bool.{false≢true}
+use Rattle.std.proofs.lemmas.Bool.Decides.{nat_tests}
+use Rattle.cf_reference.specs.declared.grammar.Head.{Head}
+use Rattle.cf_reference.specs.declared.grammar.Kind.{Kind}
+use Rattle.cf_reference.specs.declared.grammar.Kind.TheVariants.{Expression as AnExpression}
+use Rattle.cf_reference.specs.Heads.{head_of, takes, counted, kind_in, kind_at, signature}
+use Rattle.cf_reference.specs.Words.{open_sign, comma}
+use Rattle.cf_reference.specs.Trees.{Tree, Num, At, Named, Call, none, more, atom, count, atom_fits, tree_fits}
+use Rattle.cf_reference.specs.Grammar.{leaf, atom_of, SpellsLeaf, SpellsTree, SpellsArguments}
 use Rattle.cf_reference.proofs.SpellingLaws.{spells-call, not-open, leaves, spells-leaf}
-use Rattle.cf_reference.proofs.GrammarLaws.{unique, unique_first, inv_leaf, inv_call, inside_of}
+use Rattle.cf_reference.proofs.GrammarLaws.{some_is, inv_leaf, inv_call}
+use Rattle.cf_script.proofs.ReadingFacts.{no-expression}
 use Rattle.cf_script.specs.declared.trees.Expr.{Expr}
-use Rattle.cf_script.specs.declared.trees.Expr as expr
+use Rattle.cf_script.specs.declared.arguments.Argument.{Argument}
+use Rattle.cf_script.specs.declared.arguments.Argument.TheVariants as argument
+use Rattle.cf_model.specs.declared.terms.Word2.TheVariants.{And, Or, Xor, Plus, Minus, Times, Min, Max, Eq, Lt}
+use Rattle.cf_reference.specs.declared.grammar.Head.TheVariants.{Const, One, Fold, Ite}
 use Rattle.cf_script.specs.declared.trees.Exprs.{Exprs}
-use Rattle.cf_script.specs.Views.{tree_of}
-use Rattle.cf_script.specs.Readings.{IsReading, IsReadingInside, IsLeaf, AreReadings, SpellsNone, SpellsNoneInside}
-use Rattle.cf_script.proofs.Rows.{fold_listed, ite_listed}
+use Rattle.cf_script.specs.declared.arguments.Gathered.{Gathered}
+use Rattle.cf_script.specs.declared.arguments.Gathered.TheVariants as form
+use Rattle.cf_script.specs.Views.{tree_of, listed}
+use Rattle.cf_script.proofs.ListFacts.{HasEnds, more_behind}
+use Rattle.cf_script.specs.Readings.{IsReading, IsLeaf, SpellsNone}
+use Rattle.cf_script.specs.Arguments.{held, as_arguments, gathered, has_two, is_list, HasShape, IsList, IsFew, HasRoom, IsOf, OfKinds, HaveKinds, IsWord, IsArgument, AreReadings, SpellsNoArgument, SpellsNoArguments}
 
 nil_leaf : (t : Tree) (rest : List (List ℕ)) → SpellsLeaf t [] rest → ⊥
 nil_leaf t rest h = let e = h.words in cc
@@ -30,28 +38,28 @@ none-empty all is t rest h = at t (subst (λ a. SpellsTree t a rest) is h)
     at (Num n) h = nil_leaf (Num n) rest h
     at (At n) h = nil_leaf (At n) rest h
     at (Named name) h = nil_leaf (Named name) rest h
-    at (Const level n) h = let e = h.1.words in cc
-    at (One word t) h = let e = h.1.words in cc
-    at (Fold word ts) h = let e = h.1.words in cc
-    at (Ite ts) h = let e = h.1.words in cc
+    at (Call head es) h = let e = h.1.words in cc
 
-pub is-call : (c : Call) (e : Expr) (word : List ℕ) (all next inside rest : List (List ℕ)) → all ≡ word ∷ next → next ≡ open_sign ∷ inside → Some c ≡ call_of word
-    → IsReadingInside c e inside rest → IsReading e all rest
-is-call c e word all next inside rest is open_is of r = record {
-  tree = r.tree;
-  spells = spells-call c r.tree word all inside rest (is ∙ ap (λ l. word ∷ l) open_is) (sym of) r.spells;
-  shows = r.shows;
+pub is-call : (head : Head) (args : List Argument) (e : Expr) (word : List ℕ) (all next inside rest : List (List ℕ)) → all ≡ word ∷ next → next ≡ open_sign ∷ inside → Some head ≡ head_of word
+    → AreReadings head args inside rest → tree_of e ≡ Call head (held args) → IsReading e all rest
+is-call head args e word all next inside rest is open_is of r same = record {
+  tree = Call head r.spelled;
+  spells = spells-call head r.spelled word all inside rest (is ∙ ap (λ l. word ∷ l) open_is) (sym of) (ap (takes head) r.long ∙ r.number) r.spells;
+  shows = λ fit. same ∙ ap (Call head) (r.shows fit);
 }
 
-pub none-inside : (c : Call) (word : List ℕ) (all next inside : List (List ℕ)) → all ≡ word ∷ next → next ≡ open_sign ∷ inside → Some c ≡ call_of word
-    → SpellsNoneInside c inside → SpellsNone all
-none-inside c word all next inside is open_is of nothing t rest h =
-    nothing t rest (inside_of c t word inside rest (sym of) (subst (λ a. SpellsTree t a rest) (is ∙ ap (λ l. word ∷ l) open_is) h))
+pub none-inside : (head : Head) (word : List ℕ) (all next inside : List (List ℕ)) → all ≡ word ∷ next → next ≡ open_sign ∷ inside → Some head ≡ head_of word
+    → SpellsNoArguments head inside → SpellsNone all
+none-inside head word all next inside is open_is of nothing t rest h =
+    let i = inv_call t word inside rest (subst (λ a. SpellsTree t a rest) (is ∙ ap (λ l. word ∷ l) open_is) h) in
+    let same : i.head ≡ head = some_is (sym i.of ∙ sym of) in
+    nothing i.arguments rest (subst (λ (d : Head). IsTrue (takes d (count i.arguments))) same i.number)
+    (subst (λ (d : Head). SpellsArguments d 0 i.arguments inside rest) same i.spells)
 
-pub none-called : (word : List ℕ) (all next inside : List (List ℕ)) → all ≡ word ∷ next → next ≡ open_sign ∷ inside → None ≡ call_of word → SpellsNone all
+pub none-called : (word : List ℕ) (all next inside : List (List ℕ)) → all ≡ word ∷ next → next ≡ open_sign ∷ inside → None ≡ head_of word → SpellsNone all
 none-called word all next inside is open_is of t rest h =
     let i = inv_call t word inside rest (subst (λ a. SpellsTree t a rest) (is ∙ ap (λ l. word ∷ l) open_is) h) in
-    let e = i.is in
+    let e = i.of in
     cc
 
 pub is-leaf : (e : Expr) (word : List ℕ) (all next : List (List ℕ)) → all ≡ word ∷ next → ((x : List (List ℕ)) → next ≡ open_sign ∷ x → ⊥) → IsLeaf e word → IsReading e all next
@@ -67,55 +75,156 @@ none-leaf word all next is other nothing t rest h =
     let e = i.0 in
     cc
 
--- the argument of an operation
-pub none-one : (op : Word1) (e : Expr) (all end : List (List ℕ)) → IsReading e all end → ((x : List (List ℕ)) → end ≡ close_sign ∷ x → ⊥) → SpellsNoneInside (call.One op) all
-none-one op e all end r other t rest h =
-    let s = unique h.0 all (close_sign ∷ rest) r.tree end h.2 r.spells in
-    other rest (sym s.1)
+first_fits : (x : Bool) → (x && true) ≡ true → x ≡ true
+first_fits true h = refl
+first_fits false h = h
 
-pub none-only : (op : Word1) (all : List (List ℕ)) → SpellsNone all → SpellsNoneInside (call.One op) all
-none-only op all nothing t rest h = nothing h.0 (close_sign ∷ rest) h.2
-
--- the arguments of a fold
-pub is-fold : (op : Word2) (es : Exprs) (all rest : List (List ℕ)) → AreReadings es.items.items all rest → takes op (length es.items.items) ≡ true
-    → IsReadingInside (call.Fold op) (expr.Fold op es) all rest
-is-fold op es all rest r enough = record {
-  tree = Fold op r.trees;
-  spells = (r.trees, refl, ap (takes op) r.long ∙ enough, r.spells);
-  shows = λ fit. fold_listed op es ∙ ap (Fold op) (r.shows fit);
+-- an expression as an argument
+pub argument-read : (kind : Kind) (e : Expr) (all rest : List (List ℕ)) → kind ≡ AnExpression → IsReading e all rest → IsArgument kind (argument.Expr e) all rest
+argument-read kind e all rest is r = record {
+  spelled = more r.tree none;
+  spells = (is, r.spells);
+  kinds = subst (λ (k : Kind). IsOf k (argument.Expr e)) (sym is) tt;
+  shows = λ fit. ap (λ t. more t none) (r.shows (first_fits (tree_fits r.tree) fit));
 }
 
-pub none-fold : (op : Word2) (es : List Expr) (all rest : List (List ℕ)) → AreReadings es all rest → takes op (length es) ≡ false → SpellsNoneInside (call.Fold op) all
-none-fold op es all rest r few t left h =
-    let s = unique_first h.0 all left r.trees rest h.3 r.spells in
-    let enough : takes op (length es) ≡ true = ap (takes op) (sym r.long ∙ ap count (sym s.0)) ∙ h.2 in
-    let e : true ≡ false = sym enough ∙ few in
-    cc
-
--- the arguments of a choice
-pub is-ite : (es : Exprs) (all rest : List (List ℕ)) → AreReadings es.items.items all rest → length es.items.items ≡ 3 → IsReadingInside call.Ite (expr.Ite es) all rest
-is-ite es all rest r three = record {
-  tree = Ite r.trees;
-  spells = (r.trees, refl, ap (λ n. n == 3) (r.long ∙ three), r.spells);
-  shows = λ fit. ite_listed es ∙ ap Ite (r.shows fit);
+-- a word as an argument
+pub argument-word : (kind : Kind) (a : Argument) (word : List ℕ) (all rest : List (List ℕ)) → all ≡ word ∷ rest → IsWord kind a word → IsArgument kind a all rest
+argument-word kind a word all rest is r = record {
+  spelled = atom r.spelled none;
+  spells = (word, is, r.spells);
+  kinds = r.kinds;
+  shows = λ fit. r.shows (first_fits (atom_fits r.spelled) fit);
 }
 
-pub none-ite : (es : List Expr) (all rest : List (List ℕ)) → AreReadings es all rest → (length es ≡ 3 → ⊥) → SpellsNoneInside call.Ite all
-none-ite es all rest r other t left h =
-    let s = unique_first h.0 all left r.trees rest h.3 r.spells in
-    other (sym r.long ∙ ap count (sym s.0) ∙ eqb-true (count h.0) 3 h.2)
+pub none-argument : (kind : Kind) (all : List (List ℕ)) → kind ≡ AnExpression → SpellsNone all → SpellsNoArgument kind all
+none-argument kind all is nothing (more t none) rest h = nothing t rest h.1
+none-argument kind all is nothing none rest h = h
+none-argument kind all is nothing (more t (more u us)) rest h = h
+none-argument kind all is nothing (more t (atom a us)) rest h = h
+none-argument kind all is nothing (atom a none) rest h = let e : None ≡ Some a = sym (no-expression h.0) ∙ (sym (ap (λ (k : Kind). atom_of k h.0) is) ∙ h.2) in cc
+none-argument kind all is nothing (atom a (more t us)) rest h = h
+none-argument kind all is nothing (atom a (atom b us)) rest h = h
 
-pub is-one : (op : Word1) (r e : Expr) (all end rest : List (List ℕ)) → tree_of r ≡ One op (tree_of e) → IsReading e all end → end ≡ close_sign ∷ rest → IsReadingInside (call.One op) r all rest
-is-one op r e all end rest is read closes = record {
-  tree = One op read.tree;
-  spells = (read.tree, refl, subst (λ a. SpellsTree read.tree all a) closes read.spells);
-  shows = λ fit. is ∙ ap (One op) (read.shows fit);
-}
+-- where the first word isn't one
+pub none-word : (kind : Kind) (all : List (List ℕ)) → (kind ≡ AnExpression → ⊥) → ((word : List ℕ) (rest : List (List ℕ)) → all ≡ word ∷ rest → atom_of kind word ≡ None) → SpellsNoArgument kind all
+none-word kind all other nothing none rest h = h
+none-word kind all other nothing (more t none) rest h = other h.0
+none-word kind all other nothing (more t (more u us)) rest h = h
+none-word kind all other nothing (more t (atom a us)) rest h = h
+none-word kind all other nothing (atom a none) rest h = let e : None ≡ Some a = sym (nothing h.0 rest h.1) ∙ h.2 in cc
+none-word kind all other nothing (atom a (more t us)) rest h = h
+none-word kind all other nothing (atom a (atom b us)) rest h = h
 
--- what an option says where it has become an error
-pub from-none : {A E : Type 0} (o : Option A) (m : E) (P : Type 0) (r : Result A E) → r ≡ ok_or o m → r ≡ Err m → IfNone o P → P
-from-none None m P r gives is p = p
-from-none (Some x) m P r gives is p = let e : Ok x ≡ Err m = sym gives ∙ is in cc
+-- arguments that a head takes, by its signature
+counted_later : (least : ℕ) (further : Option Kind) (n : ℕ) → counted (suc least) further (suc n) ≡ true → counted least further n ≡ true
+counted_later least None n h = grind (arith, nat_tests)
+counted_later least (Some kind) n h = grind (arith, nat_tests)
+
+counted_first : (least : ℕ) (further : Option Kind) → counted (suc least) further 0 ≡ true → ⊥
+counted_first least None h = grind (arith, nat_tests)
+counted_first least (Some kind) h = grind (arith, nat_tests)
+
+of_kinds : (kinds : List Kind) (further : Option Kind) (args : List Argument) → counted (length kinds) further (length args) ≡ true → HaveKinds (kind_in kinds further) args
+    → OfKinds kinds further args
+of_kinds [] None [] n h = tt
+of_kinds [] None (a ∷ args) n h = absurd (grind (arith, nat_tests))
+of_kinds [] (Some kind) [] n h = tt
+of_kinds [] (Some kind) (a ∷ args) n h = (h.0, of_kinds [] (Some kind) args (grind (arith, nat_tests)) h.1)
+of_kinds (kind ∷ kinds) further [] n h = absurd (counted_first (length kinds) further n)
+of_kinds (kind ∷ kinds) further (a ∷ args) n h = (h.0, of_kinds kinds further args (counted_later (length kinds) further (length args) n) h.1)
+
+pub of-kinds : (head : Head) (args : List Argument) → takes head (length args) ≡ true → HaveKinds (kind_at head) args → OfKinds (signature head).first (signature head).further args
+of-kinds head args n h = of_kinds (signature head).first (signature head).further args n h
+
+-- expressions are held as a list
+pub held_listed : (es : List Expr) → held (as_arguments es) ≡ listed es
+held_listed [] = refl
+held_listed (e ∷ es) = ap (more (tree_of e)) (held_listed es)
+
+pub as_many : (es : List Expr) → length (as_arguments es) ≡ length es
+as_many [] = refl
+as_many (e ∷ es) = omega (arith, as_many es)
+
+pub one-more : (es : List Expr) (e : Expr) → as_arguments (es ++ e ∷ []) ≡ as_arguments es ++ argument.Expr e ∷ []
+one-more [] e = refl
+one-more (x ∷ es) e = ap (λ l. argument.Expr x ∷ l) (one-more es e)
+
+-- the arguments of a call that keeps a list are expressions
+in_none : (i : ℕ) → kind_in (AnExpression ∷ AnExpression ∷ []) None i ≡ AnExpression
+in_none zero = refl
+in_none (suc zero) = refl
+in_none (suc (suc i)) = refl
+
+in_some : (i : ℕ) → kind_in (AnExpression ∷ AnExpression ∷ []) (Some AnExpression) i ≡ AnExpression
+in_some zero = refl
+in_some (suc zero) = refl
+in_some (suc (suc i)) = refl
+
+in_three : (i : ℕ) → kind_in (AnExpression ∷ AnExpression ∷ AnExpression ∷ []) None i ≡ AnExpression
+in_three zero = refl
+in_three (suc i) = in_none i
+
+list_kind : (head : Head) (i : ℕ) → is_list head ≡ true → kind_at head i ≡ AnExpression
+list_kind Const i h = absurd (false≢true h)
+list_kind (One word) i h = absurd (false≢true h)
+list_kind (Fold Minus) i h = in_none i
+list_kind (Fold Eq) i h = in_none i
+list_kind (Fold Lt) i h = in_none i
+list_kind (Fold And) i h = in_some i
+list_kind (Fold Or) i h = in_some i
+list_kind (Fold Xor) i h = in_some i
+list_kind (Fold Plus) i h = in_some i
+list_kind (Fold Times) i h = in_some i
+list_kind (Fold Min) i h = in_some i
+list_kind (Fold Max) i h = in_some i
+list_kind Ite i h = in_three i
+
+is_expr : (es : Exprs) (a : Argument) → IsOf AnExpression a → HasRoom (form.List es) a
+is_expr es (argument.Expr e) h = tt
+is_expr es (argument.Var v) h = absurd h
+is_expr es (argument.Number n) h = absurd h
+
+pub has-room : (head : Head) (args : Gathered) (a : Argument) (i : ℕ) → HasShape head args → has_two args ≡ false → IsOf (kind_at head i) a → HasRoom args a
+has-room head form.Empty a i h few is = tt
+has-room head (form.One b) a i h few is = tt
+has-room head (form.Two b c) a i h few is = absurd (false≢true (sym few))
+has-room head (form.List es) a i h few is = is_expr es a (subst (λ (k : Kind). IsOf k a) (list_kind head i h) is)
+
+-- a call that keeps no list has at most two arguments
+few_taken : (head : Head) (n : ℕ) → is_list head ≡ false → takes head n ≡ true → n ≤ 2
+few_taken Const n h t = grind (arith, nat_tests)
+few_taken (One word) n h t = grind (arith, nat_tests)
+few_taken (Fold word) n h t = absurd (false≢true (sym h))
+few_taken Ite n h t = absurd (false≢true (sym h))
+
+two_shaped : (head : Head) (args : Gathered) → HasShape head args → has_two args ≡ true → (is_list head ≡ false) × (length (gathered args) ≡ 2)
+two_shaped head form.Empty h two = absurd (false≢true two)
+two_shaped head (form.One b) h two = absurd (false≢true two)
+two_shaped head (form.Two b c) h two = (h, refl)
+two_shaped head (form.List es) h two = absurd (false≢true two)
+
+-- no call has what comes behind two
+pub too-many : (head : Head) (args : Gathered) (n : ℕ) (all end after : List (List ℕ)) → HasShape head args → has_two args ≡ true → length (gathered args) ≡ suc n → HasEnds head (suc n) all end
+    → end ≡ comma ∷ after → SpellsNoArguments head all
+too-many head args n all end after shape two long e is ts rest number h =
+    let few = two_shaped head args shape two in
+    let k = e.ends ts rest h in
+    let some = more_behind head n k.0 end after rest is k.1 in
+    let most = few_taken head (count ts) few.0 number in
+    absurd (omega (arith, few.1, long, k.2, some, most))
+
+pub list-shaped : (head : Head) (args : Gathered) → HasShape head args → is_list head ≡ true → IsList args
+list-shaped head form.Empty h list = absurd (false≢true (sym h ∙ list))
+list-shaped head (form.One b) h list = absurd (false≢true (sym h ∙ list))
+list-shaped head (form.Two b c) h list = absurd (false≢true (sym h ∙ list))
+list-shaped head (form.List es) h list = tt
+
+pub few-shaped : (head : Head) (args : Gathered) → HasShape head args → is_list head ≡ false → IsFew args
+few-shaped head form.Empty h few = tt
+few-shaped head (form.One b) h few = tt
+few-shaped head (form.Two b c) h few = tt
+few-shaped head (form.List es) h few = absurd (false≢true (sym few ∙ h))
 
 -- an error that is handed on
 pub handed-on : {T E : Type 0} (P : E → Type 0) (m : E) (r : Result T E) → IsErrAnd r P → r ≡ Err m → P m

@@ -1,7 +1,7 @@
 -- Numbers that digits spell, and which of them fit.
 use Rattle.std.proofs.Common.{ℕ, suc, zero, ℤ, pos, neg_ℤ, ◌*ℤ◌, ◌-ℤ◌, ◌≤ℤ◌, ◌≡◌, ◌<◌, ◌≤◌, ◌+◌, ◌*◌, ◌-◌, ◌^◌, Bool, true, false, not, cond, ◌&&◌, nat_lt, nat_le, ◌==◌, List, [], ◌∷◌, take, get_or, length, Option, Some, None, refl, ap, sym, ◌∙◌, arith}
 use Rattle.std.specs.List.{fold}
-use Rattle.std.proofs.lemmas.Bool.{ltb-true, lt-ltb, le-ltb, eqb-true}
+use Rattle.std.proofs.lemmas.Bool.{leb-true, ltb-true, lt-ltb, le-ltb, eqb-true}
 use Rattle.std.proofs.lemmas.Int.{ints, to_z-of_z}
 use mir.Syntax.{w128}
 use mir.Val.{to_z, of_z}
@@ -139,3 +139,53 @@ place-other (b ∷ rest) other = at (b == 64) refl
     at : (t : Bool) → (b == 64) ≡ t → cond t (natural rest) None ≡ None
     at true is = absurd (other rest (ap (λ x. x ∷ rest) (eqb-true b 64 is)))
     at false is = refl
+
+-- a number with so many zeros behind it
+abbrev pub with_zeros : ℕ → ℕ → ℕ
+with_zeros a zero = a
+with_zeros a (suc n) = with_zeros (10 * a) n
+
+pub zeros-more : (a b n m : ℕ) → a ≤ b → n ≤ m → with_zeros a n ≤ with_zeros b m
+zeros-more a b zero zero h k = h
+zeros-more a b zero (suc m) h k = zeros-more a (10 * b) zero m (omega (arith, h)) (omega arith)
+zeros-more a b (suc n) zero h k = absurd (omega (arith, k))
+zeros-more a b (suc n) (suc m) h k = zeros-more (10 * a) (10 * b) n m (omega (arith, h)) (omega (arith, k))
+
+digit_most : (d : ℕ) → is_ascii_digit d ≡ true → d - 48 ≤ 9
+digit_most d h = at (nat_le 48 d) (nat_le d 57) refl h
+  where
+    at : (x y : Bool) → nat_le d 57 ≡ y → (x && y) ≡ true → d - 48 ≤ 9
+    at true true e k = let l : d ≤ 57 = leb-true d 57 e in omega (arith, l)
+    at true false e k = cc
+    at false y e k = cc
+
+digits_below : (digits : List ℕ) (a : ℕ) → list_all is_ascii_digit digits ≡ true → fold more_digit a digits < with_zeros (a + 1) (length digits)
+digits_below [] a h = omega arith
+digits_below (d ∷ digits) a h = at (digits_below digits (more_digit a d)) (is_ascii_digit d) refl h
+  where
+    at : (list_all is_ascii_digit digits ≡ true → fold more_digit (more_digit a d) digits < with_zeros (more_digit a d + 1) (length digits))
+        → (t : Bool) → is_ascii_digit d ≡ t → (t && list_all is_ascii_digit digits) ≡ true → fold more_digit (more_digit a d) digits < with_zeros (10 * (a + 1)) (length digits)
+    at below true is all =
+        let later = below all in
+        let most = zeros-more (more_digit a d + 1) (10 * (a + 1)) (length digits) (length digits) (omega (arith, digit_most d is)) (omega arith) in
+        omega (arith, later, most)
+    at below false is all = cc
+
+under : (a b c d : ℕ) → a < b → b ≤ c → c < d → a < d
+under a b c d h k l = omega (arith, h, k, l)
+
+-- any 38 digits spell a number that fits
+pub digits-fit : (digits : List ℕ) → list_all is_ascii_digit digits ≡ true → length digits ≤ 38 → fits (pos (decimal_value digits)) ≡ true
+digits-fit digits all short =
+    let few : decimal_value digits < 2 ^ 127 =
+    under (decimal_value digits) (with_zeros 1 (length digits)) (with_zeros 1 38) (2 ^ 127) (digits_below digits 0 all) (zeros-more 1 1 (length digits) 38 (omega arith) short)
+    (ltb-true (with_zeros 1 38) (2 ^ 127) refl) in
+    lt-ltb (decimal_value digits) (2 ^ 127) few
+
+-- and so do they behind `-`
+pub opposite-fits : (n : ℕ) → fits (pos n) ≡ true → fits (neg_ℤ (pos n)) ≡ true
+opposite-fits n h = at (fits (neg_ℤ (pos n))) refl
+  where
+    at : (t : Bool) → fits (neg_ℤ (pos n)) ≡ t → t ≡ true
+    at true is = refl
+    at false is = let e : false ≡ true = sym (positive-wide n is) ∙ h in cc

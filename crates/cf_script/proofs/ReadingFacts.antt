@@ -1,18 +1,26 @@
 -- From words that were read to the trees that they spell.
-use Rattle.std.proofs.Common.{ℕ, ℤ, pos, ◌≡◌, ◌&&◌, Bool, true, false, cond, List, ◌∷◌, Option, Some, None, refl, ap, ◌∙◌}
+use Rattle.std.proofs.Common.{ℕ, ℤ, pos, ◌≡◌, true, false, cond, List, Option, Some, None, refl, ap, sym, subst, ◌∙◌}
 use Rattle.std.specs.Option.{option_map, unwrap_or}
+use Rattle.std.specs.Prelude.{codes}
+use Rattle.std.specs.Str.{bytes_eq}
 use mir.Syntax.{w128}
 use mir.Val.{to_z, of_z}
 use Rattle.std.proofs.lemmas.Int.{to_z-of_z}
 use Rattle.cf_model.specs.Values.{fits, fitting}
 use Rattle.cf_model.proofs.TermLaws.{fitting-some}
-use Rattle.cf_reference.specs.declared.grammar.Call.TheVariants as call
-use Rattle.cf_reference.specs.Words.{number, place, natural, is_name, comma, close_sign}
-use Rattle.cf_reference.specs.Trees.{Num, At, Named, Const}
-use Rattle.cf_reference.specs.Grammar.{leaf, leaf_of_number, leaf_of_place}
+use Rattle.cf_reference.specs.declared.grammar.Kind.TheVariants.{Expression as AnExpression, Variable as AVariable, Natural as ANatural, Number as ANumber, Bit as ABit}
+use Rattle.cf_reference.specs.Words.{number, place, natural, is_name}
+use Rattle.cf_reference.specs.Trees.{Num, At, Named, Variable, Position, Number, atom}
+use Rattle.cf_reference.specs.Trees as tree
+use Rattle.cf_reference.specs.Grammar.{leaf, leaf_of_number, leaf_of_place, variable_of, atom_of}
 use Rattle.cf_script.specs.declared.trees.Expr.{Expr}
 use Rattle.cf_script.specs.declared.trees.Expr as expr
-use Rattle.cf_script.specs.Readings.{IsLeaf, IsReadingInside}
+use Rattle.cf_script.specs.declared.trees.Var.TheVariants as var
+use Rattle.cf_reference.specs.declared.grammar.Kind.{Kind}
+use Rattle.cf_script.specs.declared.arguments.Argument.{Argument}
+use Rattle.cf_script.specs.declared.arguments.Argument.TheVariants as argument
+use Rattle.cf_script.specs.Readings.{IsLeaf}
+use Rattle.cf_script.specs.Arguments.{IsWord}
 
 -- a word that was read as a number has one
 pub record HasNumber (of : Option ℤ) (read : Option ℤ) : Type 0 where
@@ -65,21 +73,59 @@ leaf-named word none other name = leaf-name word (has-none (number word) none) (
 pub no-leaf : (word : List ℕ) → None ≡ option_map fitting (number word) → None ≡ option_map fitting (place word) → is_name word ≡ false → leaf word ≡ None
 no-leaf word none other name = leaf-name word (has-none (number word) none) (has-none (place word) other) ∙ ap (λ t. cond t (Some (Named word)) None) name
 
-both_fit : (x y : Bool) → (x && y) ≡ true → (x ≡ true) × (y ≡ true)
-both_fit true y h = (refl, h)
-both_fit false y h = cc
+-- the word of each kind of argument
+pub is-natural : (word : List ℕ) (value : Option ℤ) (v : ℤ) → Some value ≡ option_map fitting (natural word) → v ≡ unwrap_or value (pos 0)
+    → IsWord ANatural (argument.Number (to_z w128 (of_z w128 v))) word
+unfolding atom_of
+is-natural word value v read gives =
+    let h = has-number (natural word) value read in
+    record { spelled = Number h.n; spells = ap (option_map Number) h.is; kinds = tt; shows = λ fit. ap (λ n. atom (Number n) tree.none) (exact h.n value v h.value gives fit) }
 
--- a constant
-pub is-const : (first second : List ℕ) (level value : Option ℤ) (j v : ℤ) (all rest : List (List ℕ)) → all ≡ first ∷ comma ∷ second ∷ close_sign ∷ rest
-    → Some level ≡ option_map fitting (natural first) → Some value ≡ option_map fitting (number second) → j ≡ unwrap_or level (pos 0) → v ≡ unwrap_or value (pos 0)
-    → IsReadingInside call.Const (expr.Const (to_z w128 (of_z w128 j)) (to_z w128 (of_z w128 v))) all rest
-is-const first second level value j v all rest words read_level read_value gives_level gives_value =
-    let h = has-number (natural first) level read_level in
-    let k = has-number (number second) value read_value in
-    record {
-      tree = Const h.n k.n;
-      spells = (h.n, k.n, refl, record { first = first; second = second; words = words; level = h.is; value = k.is });
-      shows = λ fit.
-          let both = both_fit (fits h.n) (fits k.n) fit in
-          ap (λ x. Const x (to_z w128 (of_z w128 v))) (exact h.n level j h.value gives_level both.0) ∙ ap (Const h.n) (exact k.n value v k.value gives_value both.1);
-    }
+pub is-any-number : (word : List ℕ) (value : Option ℤ) (v : ℤ) → Some value ≡ option_map fitting (number word) → v ≡ unwrap_or value (pos 0)
+    → IsWord ANumber (argument.Number (to_z w128 (of_z w128 v))) word
+unfolding atom_of
+is-any-number word value v read gives =
+    let h = has-number (number word) value read in
+    record { spelled = Number h.n; spells = ap (option_map Number) h.is; kinds = tt; shows = λ fit. ap (λ n. atom (Number n) tree.none) (exact h.n value v h.value gives fit) }
+
+pub is-position : (word : List ℕ) (value : Option ℤ) (v : ℤ) → Some value ≡ option_map fitting (place word) → v ≡ unwrap_or value (pos 0)
+    → IsWord AVariable (argument.Var (var.At (to_z w128 (of_z w128 v)))) word
+unfolding atom_of
+is-position word value v read gives =
+    let h = has-number (place word) value read in
+    record { spelled = Position h.n; spells = ap (variable_of word) h.is; kinds = tt; shows = λ fit. ap (λ n. atom (Position n) tree.none) (exact h.n value v h.value gives fit) }
+
+pub variable-named : (word : List ℕ) → None ≡ option_map fitting (place word) → is_name word ≡ true → atom_of AVariable word ≡ Some (Variable word)
+unfolding atom_of
+variable-named word none_read name = ap (variable_of word) (has-none (place word) none_read) ∙ ap (λ t. cond t (Some (Variable word)) None) name
+
+pub no-variable : (word : List ℕ) → None ≡ option_map fitting (place word) → is_name word ≡ false → atom_of AVariable word ≡ None
+unfolding atom_of
+no-variable word none_read name = ap (variable_of word) (has-none (place word) none_read) ∙ ap (λ t. cond t (Some (Variable word)) None) name
+
+pub no-natural : (word : List ℕ) → None ≡ option_map fitting (natural word) → atom_of ANatural word ≡ None
+unfolding atom_of
+no-natural word read = ap (option_map Number) (has-none (natural word) read)
+
+pub no-number : (word : List ℕ) → None ≡ option_map fitting (number word) → atom_of ANumber word ≡ None
+unfolding atom_of
+no-number word read = ap (option_map Number) (has-none (number word) read)
+
+pub no-expression : (word : List ℕ) → atom_of AnExpression word ≡ None
+unfolding atom_of
+no-expression word = refl
+
+pub is-zero-bit : (word : List ℕ) (m : ℤ) → bytes_eq word (codes "0") ≡ true → m ≡ pos 0 → IsWord ABit (argument.Number m) word
+unfolding atom_of
+is-zero-bit word m is e = rw e (record { spelled = Number (pos 0); spells = rw is refl; kinds = refl; shows = λ fit. refl })
+
+pub is-one-bit : (word : List ℕ) (m : ℤ) → bytes_eq word (codes "0") ≡ false → bytes_eq word (codes "1") ≡ true → m ≡ pos 1 → IsWord ABit (argument.Number m) word
+unfolding atom_of
+is-one-bit word m other is e = rw e (record { spelled = Number (pos 1); spells = rw (other, is) refl; kinds = refl; shows = λ fit. refl })
+
+pub no-bit : (word : List ℕ) → bytes_eq word (codes "0") ≡ false → bytes_eq word (codes "1") ≡ false → atom_of ABit word ≡ None
+unfolding atom_of
+no-bit word a b = rw (a, b) refl
+
+pub of-kind : (kind k : Kind) (a : Argument) (word : List ℕ) → kind ≡ k → IsWord k a word → IsWord kind a word
+of-kind kind k a word is h = subst (λ (x : Kind). IsWord x a word) (sym is) h

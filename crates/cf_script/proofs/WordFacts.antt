@@ -1,6 +1,7 @@
 -- How a text's words stand to the first byte of each kind.
-use Rattle.std.proofs.Common.{ℕ, suc, ◌≡◌, ◌<◌, ◌+◌, ◌==◌, ◌||◌, Bool, true, false, not, cond, List, [], ◌∷◌, take, drop, get_or, length, Some, None, refl, ap, sym, ◌∙◌, arith}
-use Rattle.std.specs.Prelude.{position}
+use Rattle.std.proofs.Common.{ℕ, zero, suc, ◌≡◌, ◌<◌, ◌+◌, ◌==◌, ◌||◌, Bool, true, false, not, cond, List, [], ◌∷◌, take, drop, get_or, length, Some, None, refl, ap, sym, ◌∙◌, arith}
+use Rattle.std.specs.Prelude.{Option, IfNone, position, slice_index}
+use Rattle.memchr.specs.Find.{IsFirstByte, is_byte}
 use Rattle.std.specs.List.{position_from}
 use Rattle.std.proofs.lemmas.Iterator.Adapters.{position_from-zero}
 use Rattle.cf_reference.specs.Words.{before_comment, words, is_blank, is_sign, runs, begins_run, lengthen}
@@ -14,36 +15,32 @@ is_visible b = not (is_blank b)
 abbrev ends_run : ℕ → Bool
 ends_run b = not (runs b)
 
-hash_at : (line : List ℕ) (k place : ℕ) → position_from is_hash k line ≡ Some place → (end : ℕ) × (place ≡ k + end) × (before_comment line ≡ take end line)
+hash_at : (line : List ℕ) (end : ℕ) → end < length line → ((m : ℕ) → m < end → is_hash (slice_index line m) ≡ true → ⊥) → is_hash (slice_index line end) ≡ true → take end line ≡ before_comment line
 unfolding before_comment
-hash_at [] k place some = cc
-hash_at (b ∷ line) k place some = at (b == 35) (hash_at line (k + 1) place) some
+hash_at [] end within none some = absurd (omega (arith, within))
+hash_at (b ∷ line) zero within none some = rw some refl
+hash_at (b ∷ line) (suc end) within none some =
+    at (b == 35) refl (hash_at line end (omega (arith, within)) (λ m below is. none (suc m) (omega (arith, below)) is) some)
   where
-    at : (t : Bool) → (position_from is_hash (k + 1) line ≡ Some place → (end : ℕ) × (place ≡ k + 1 + end) × (before_comment line ≡ take end line))
-        → cond t (Some k) (position_from is_hash (k + 1) line) ≡ Some place
-        → (end : ℕ) × (place ≡ k + end) × (cond t [] (b ∷ before_comment line) ≡ take end (b ∷ line))
-    at true later h = (0, omega (arith, let e : k ≡ place = cc in e), refl)
-    at false later h = let cut = later h in (suc cut.0, omega (arith, cut.1), ap (λ l. b ∷ l) cut.2)
+    at : (t : Bool) → (b == 35) ≡ t → take end line ≡ before_comment line → b ∷ take end line ≡ cond t [] (b ∷ before_comment line)
+    at true is later = absurd (none 0 (omega arith) is)
+    at false is later = ap (λ l. b ∷ l) later
 
-no_hash : (line : List ℕ) (k : ℕ) → position_from is_hash k line ≡ None → before_comment line ≡ line
+no_hash : (line : List ℕ) → ((m : ℕ) → m < length line → is_hash (slice_index line m) ≡ true → ⊥) → line ≡ before_comment line
 unfolding before_comment
-no_hash [] k none = refl
-no_hash (b ∷ line) k none = at (b == 35) (no_hash line (k + 1)) none
+no_hash [] none = refl
+no_hash (b ∷ line) none = at (b == 35) refl (no_hash line (λ m below is. none (suc m) (omega (arith, below)) is))
   where
-    at : (t : Bool) → (position_from is_hash (k + 1) line ≡ None → before_comment line ≡ line) → cond t (Some k) (position_from is_hash (k + 1) line) ≡ None
-        → cond t [] (b ∷ before_comment line) ≡ b ∷ line
-    at true later h = cc
-    at false later h = ap (λ l. b ∷ l) (later h)
+    at : (t : Bool) → (b == 35) ≡ t → line ≡ before_comment line → b ∷ line ≡ cond t [] (b ∷ before_comment line)
+    at true is later = absurd (none 0 (omega arith) is)
+    at false is later = ap (λ l. b ∷ l) later
 
 -- the part before the comment
-pub comment-cut : (line : List ℕ) (end : ℕ) → position is_hash line ≡ Some end → take end line ≡ before_comment line
-comment-cut line end some =
-    let cut = hash_at line 0 end (sym (position_from-zero is_hash line) ∙ some) in
-    let e : end ≡ cut.0 = omega (arith, cut.1) in
-    rw e (sym cut.2)
+pub comment-cut : (line : List ℕ) (end : ℕ) → IsFirstByte (is_byte 35) line (Some end) → take end line ≡ before_comment line
+comment-cut line end first = hash_at line end first.0.high (λ m below is. first.0.before m (omega arith) below is) first.1
 
-pub comment-none : (line : List ℕ) → position is_hash line ≡ None → line ≡ before_comment line
-comment-none line none = sym (no_hash line 0 (sym (position_from-zero is_hash line) ∙ none))
+pub comment-none : (line : List ℕ) → IsFirstByte (is_byte 35) line None → line ≡ before_comment line
+comment-none line none = no_hash line (λ m below is. none m (omega arith) below is)
 
 -- a text from its first byte that is no blank
 pub record Visible (text : List ℕ) (start : ℕ) : Type 0 where
@@ -154,3 +151,31 @@ word-whole (b ∷ rest) some visible sign place =
     let from : cond (ends_run b) (Some 0) (position_from ends_run 1 rest) ≡ None = sym (position_from-zero ends_run (b ∷ rest)) ∙ place in
     let later : position_from ends_run 1 rest ≡ None = (rw first at from) in
     rw (all_of rest, none_of rest) (run_whole b rest 1 visible sign later)
+
+-- a sign is the first word of the text that it begins
+pub sign-before : (text rest : List ℕ) (sign : ℕ) → text ≡ sign ∷ rest → is_blank sign ≡ false → is_sign sign ≡ true → words text ≡ (sign ∷ []) ∷ words rest
+unfolding words
+sign-before text rest sign is visible also = rw (is, visible, also) refl
+
+-- a text whose first word is one byte begins with that byte
+pub sign-first : (text : List ℕ) (sign : ℕ) (more : List (List ℕ)) → 0 < length text → is_blank (get_or text 0 0) ≡ false → words text ≡ (sign ∷ []) ∷ more
+    → (rest : List ℕ) × (text ≡ sign ∷ rest)
+sign-first [] sign more some visible h = absurd (omega arith)
+sign-first (b ∷ rest) sign more some visible h = at (is_sign b) refl
+  where
+    by : (t : Bool) (later : List (List ℕ)) → cond t (lengthen b later) ((b ∷ []) ∷ later) ≡ (sign ∷ []) ∷ more → b ≡ sign
+    by true [] e = cc
+    by true (word ∷ later) e = cc
+    by false later e = cc
+
+    at : (t : Bool) → is_sign b ≡ t → (rest' : List ℕ) × (b ∷ rest ≡ sign ∷ rest')
+    at true is =
+        let e : (b ∷ []) ∷ words rest ≡ (sign ∷ []) ∷ more = sym (sign-before (b ∷ rest) rest b refl visible is) ∙ h in
+        (rest, ap (λ x. x ∷ rest) (by false (words rest) e))
+    at false is = (rest, ap (λ x. x ∷ rest) (by (begins_run rest) (words rest) (sym (by_run b rest visible is) ∙ h)))
+
+-- where a text does not begin with a byte, its first word is not that byte
+pub none-behind : {A : Type 0} (o : Option A) (text : List ℕ) (sign : ℕ) → 0 < length text → is_blank (get_or text 0 0) ≡ false
+    → IfNone o ((rest : List ℕ) → text ≡ sign ∷ rest → ⊥) → IfNone o ((more : List (List ℕ)) → words text ≡ (sign ∷ []) ∷ more → ⊥)
+none-behind (Some x) text sign some visible none = tt
+none-behind None text sign some visible none = λ more h. let first = sign-first text sign more some visible h in none first.0 first.1

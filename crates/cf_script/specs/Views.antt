@@ -1,5 +1,6 @@
 use Rattle.std.specs.Prelude.{List, [], ◌∷◌}
-use Rattle.cf_reference.specs.Trees.{Tree, Trees, Num, At, Named, Const, One, Fold, Ite, none, more}
+use Rattle.cf_reference.specs.declared.grammar.Head.TheVariants as head
+use Rattle.cf_reference.specs.Trees.{Number, Tree, Num, At, Named, Call, Arguments, none, more, atom}
 use Rattle.cf_reference.specs.Trees as tree
 use Rattle.cf_script.specs.declared.trees.Expr.{Expr, One', Fold', Ite', Row_of-Expr, end_of-Expr, more_of-Expr}
 use Rattle.cf_script.specs.declared.trees.Expr as expr
@@ -12,17 +13,17 @@ abbrev mutual
   tree_of (expr.Num n) = Num n
   tree_of (expr.At n) = At n
   tree_of (expr.Named name) = Named name.now
-  tree_of (expr.Const level n) = Const level n
-  tree_of (One' word at e) = One word (tree_of e)
-  tree_of (Fold' word shape all) = Fold word (row_of all)
-  tree_of (Ite' shape all) = Ite (row_of all)
+  tree_of (expr.Const level n) = Call head.Const (atom (Number level) (atom (Number n) none))
+  tree_of (One' word at e) = Call (head.One word) (more (tree_of e) none)
+  tree_of (Fold' word shape all) = Call (head.Fold word) (row_of all)
+  tree_of (Ite' shape all) = Call head.Ite (row_of all)
 
-  pub row_of : {m : _} → Row_of-Expr m → Trees
+  pub row_of : {m : _} → Row_of-Expr m → Arguments
   row_of end_of-Expr = none
   row_of (more_of-Expr e rest) = more (tree_of e) (row_of rest)
 
--- the trees of a list of expressions
-abbrev pub listed : List Expr → Trees
+-- the arguments of a list of expressions
+abbrev pub listed : List Expr → Arguments
 listed [] = none
 listed (e ∷ es) = more (tree_of e) (listed es)
 

@@ -1,17 +1,20 @@
 //! The expressions of a line.
 
-ghost use Rattle.std.specs.Prelude.{◌≡◌, ◌<◌, length, None, IfOk, IfSome, IfNone, IsErrOf};
+ghost use Rattle.std.specs.Prelude.{◌≡◌, ◌<◌, [], length, None, IfOk, IfSome, IfNone, IsErrOf};
 ghost use Rattle.cf_reference.specs.Words.{words};
-ghost use Rattle.cf_reference.specs.Trees.{One, takes as takes_of};
-ghost use Rattle.cf_reference.specs.Grammar.{call_of as call_of_word, leaf as leaf_of};
+ghost use Rattle.cf_reference.specs.Heads.{head_of as head_of_word, kind_at as kind_of, takes as takes_of, signature};
+ghost use Rattle.cf_reference.specs.Trees.{Call};
+ghost use Rattle.cf_reference.specs.Grammar.{leaf as leaf_of, atom_of as atom_of_word};
 ghost use Rattle.cf_script.specs.Views.{tree_of};
-ghost use Rattle.cf_script.specs.Readings.{IsReading, IsReadingInside, AreReadings, IsLeaf, SpellsNone, SpellsNoneInside, SpellsNoList};
+ghost use Rattle.cf_script.specs.Arguments.{IsWord, OfKinds, held, gathered, HasShape, IsArgument, SpellsNoArgument, AreGathered, SpellsNoArguments};
+ghost use Rattle.cf_script.specs.Readings.{IsReading, IsLeaf, SpellsNone};
 
+use crate::arguments::{Argument, Gathered};
 use crate::numbers::{natural, number, place};
-use crate::trees::{Expr, Exprs};
+use crate::trees::{Expr, Var};
 use crate::words::{after, is_name, next_word};
 use cf_ops::{NoMemory, Word1, Word2};
-use cf_reference::grammar::Call;
+use cf_reference::grammar::{Head, Kind};
 use std::alloc::{AllocError, Global};
 
 /// Why nothing was read.
@@ -43,8 +46,11 @@ pub(crate) fn read_expr<'a>(alloc: Global, text: &'a [u8]) -> Result<(Expr<'a>, 
         return Err(Fault::Malformed);
     };
     match after(b'(', rest) {
-        Some(inside) => match call_of(word) {
-            Some(call) => read_call(alloc, call, inside),
+        Some(inside) => match head_of(word) {
+            Some(head) => {
+                let (args, rest) = read_arguments(alloc, head, inside)?;
+                Ok((call(alloc, head, args)?, rest))
+            }
             None => Err(Fault::Malformed),
         },
         None => match leaf(word) {
@@ -71,150 +77,209 @@ fn leaf(word: &[u8]) -> Option<Expr<'_>>
 }
 
 /// What a word before `(` calls.
-#[tactic(auto, unfolding(cf_reference::specs::Grammar::call_of))]
-fn call_of(word: &[u8]) -> Option<Call>
-    ensures { result ≡ call_of_word word.now }
+#[tactic(auto, unfolding(cf_reference::specs::Heads::head_of))]
+fn head_of(word: &[u8]) -> Option<Head>
+    ensures { result ≡ head_of_word word.now }
 {
     if word == b"const".as_slice() {
-        Some(Call::Const)
+        Some(Head::Const)
     } else if word == b"not".as_slice() {
-        Some(Call::One(Word1::Not))
+        Some(Head::One(Word1::Not))
     } else if word == b"neg".as_slice() {
-        Some(Call::One(Word1::Neg))
+        Some(Head::One(Word1::Neg))
     } else if word == b"and".as_slice() {
-        Some(Call::Fold(Word2::And))
+        Some(Head::Fold(Word2::And))
     } else if word == b"or".as_slice() {
-        Some(Call::Fold(Word2::Or))
+        Some(Head::Fold(Word2::Or))
     } else if word == b"xor".as_slice() {
-        Some(Call::Fold(Word2::Xor))
+        Some(Head::Fold(Word2::Xor))
     } else if word == b"plus".as_slice() {
-        Some(Call::Fold(Word2::Plus))
+        Some(Head::Fold(Word2::Plus))
     } else if word == b"minus".as_slice() {
-        Some(Call::Fold(Word2::Minus))
+        Some(Head::Fold(Word2::Minus))
     } else if word == b"times".as_slice() {
-        Some(Call::Fold(Word2::Times))
+        Some(Head::Fold(Word2::Times))
     } else if word == b"min".as_slice() {
-        Some(Call::Fold(Word2::Min))
+        Some(Head::Fold(Word2::Min))
     } else if word == b"max".as_slice() {
-        Some(Call::Fold(Word2::Max))
+        Some(Head::Fold(Word2::Max))
     } else if word == b"eq".as_slice() {
-        Some(Call::Fold(Word2::Eq))
+        Some(Head::Fold(Word2::Eq))
     } else if word == b"lt".as_slice() {
-        Some(Call::Fold(Word2::Lt))
+        Some(Head::Fold(Word2::Lt))
     } else if word == b"ite".as_slice() {
-        Some(Call::Ite)
+        Some(Head::Ite)
     } else {
         None
     }
 }
 
-/// Whether a fold takes so many arguments.
-fn takes(word: Word2, arguments: usize) -> bool
-    ensures { result ≡ takes_of word arguments }
+/// The kind of the argument at a place.
+fn kind_at(head: Head, place: usize) -> Kind
+    ensures { result ≡ kind_of head place }
 {
-    match word {
-        Word2::Minus | Word2::Eq | Word2::Lt => arguments == 2,
-        _ => arguments >= 2,
+    match head {
+        Head::Const => match place {
+            0 => Kind::Natural,
+            1 => Kind::Number,
+            _ => Kind::Expression,
+        },
+        _ => Kind::Expression,
     }
 }
 
-/// What is called, from the text behind `(`.
-#[cycle(expressions)]
-fn read_call<'a>(alloc: Global, call: Call, text: &'a [u8]) -> Result<(Expr<'a>, &'a [u8]), Fault>
-    ensures found { IfOk result (λ r. IsReadingInside call r.0 (words text.now) (words r.1.now)) }
-    ensures shorter { IfOk result (λ r. length r.1.now < length text.now) }
-    ensures only { IsErrOf result Fault.Malformed → SpellsNoneInside call (words text.now) }
+/// Whether a head takes so many arguments.
+fn takes(head: Head, arguments: usize) -> bool
+    ensures { result ≡ takes_of head arguments }
 {
-    match call {
-        Call::Const => read_const(text).ok_or(Fault::Malformed),
-        Call::One(word) => read_one(alloc, word, text),
-        Call::Fold(word) => read_fold(alloc, word, text),
-        Call::Ite => read_ite(alloc, text),
+    match head {
+        Head::Fold(Word2::Minus | Word2::Eq | Word2::Lt) => arguments == 2,
+        Head::Fold(_) => arguments >= 2,
+        Head::Const => arguments == 2,
+        Head::One(_) => arguments == 1,
+        Head::Ite => arguments == 3,
     }
 }
 
-/// The level and the number of a constant.
-fn read_const<'a>(text: &'a [u8]) -> Option<(Expr<'a>, &'a [u8])>
-    ensures found { IfSome result (λ r. IsReadingInside Call.Const r.0 (words text.now) (words r.1.now)) }
-    ensures shorter { IfSome result (λ r. length r.1.now < length text.now) }
-    ensures none { IfNone result (SpellsNoneInside Call.Const (words text.now)) }
+/// The argument of a kind that a word spells by itself.
+fn word_argument(kind: Kind, word: &[u8]) -> Option<Argument<'_>>
+    ensures found { IfSome result (λ a. IsWord kind a word.now) }
+    ensures none { IfNone result (atom_of_word kind word.now ≡ None) }
 {
-    let (level, rest) = next_word(text)?;
-    let level = natural(level)?;
-    let (value, rest) = next_word(after(b',', rest)?)?;
-    let value = number(value)?;
-    let rest = after(b')', rest)?;
-    Some((Expr::Const(level.unwrap_or(0), value.unwrap_or(0)), rest))
+    match kind {
+        Kind::Expression => None,
+        Kind::Variable => Some(Argument::Var(variable(word)?)),
+        Kind::Natural => match natural(word) {
+            Some(n) => Some(Argument::Number(n.unwrap_or(0))),
+            None => None,
+        },
+        Kind::Number => match number(word) {
+            Some(n) => Some(Argument::Number(n.unwrap_or(0))),
+            None => None,
+        },
+        Kind::Bit => Some(Argument::Number(bit(word)?)),
+    }
 }
 
-/// The one argument of an operation.
-#[cycle(expressions)]
-fn read_one<'a>(alloc: Global, word: Word1, text: &'a [u8]) -> Result<(Expr<'a>, &'a [u8]), Fault>
-    ensures found { IfOk result (λ r. IsReadingInside (Call.One word) r.0 (words text.now) (words r.1.now)) }
-    ensures shorter { IfOk result (λ r. length r.1.now < length text.now) }
-    ensures only { IsErrOf result Fault.Malformed → SpellsNoneInside (Call.One word) (words text.now) }
+/// The variable that a word spells.
+fn variable(word: &[u8]) -> Option<Var<'_>>
+    ensures found { IfSome result (λ v. IsWord Kind.Variable (Argument.Var v) word.now) }
+    ensures none { IfNone result (atom_of_word Kind.Variable word.now ≡ None) }
 {
-    let (e, end) = read_expr(alloc, text)?;
-    match after(b')', end) {
-        Some(rest) => Ok((one(alloc, word, e)?, rest)),
+    if let Some(position) = place(word) {
+        Some(Var::At(position.unwrap_or(0)))
+    } else if is_name(word) {
+        Some(Var::Named(word))
+    } else {
+        None
+    }
+}
+
+/// The bit that a word spells.
+fn bit(word: &[u8]) -> Option<i128>
+    ensures found { IfSome result (λ n. IsWord Kind.Bit (Argument.Number n) word.now) }
+    ensures none { IfNone result (atom_of_word Kind.Bit word.now ≡ None) }
+{
+    if word == b"0".as_slice() {
+        Some(0)
+    } else if word == b"1".as_slice() {
+        Some(1)
+    } else {
+        None
+    }
+}
+
+/// An argument of a kind, and the text behind it.
+#[cycle(expressions)]
+fn read_argument<'a>(
+    alloc: Global,
+    kind: Kind,
+    text: &'a [u8],
+) -> Result<(Argument<'a>, &'a [u8]), Fault>
+    ensures found { IfOk result (λ r. IsArgument kind r.0 (words text.now) (words r.1.now)) }
+    ensures shorter { IfOk result (λ r. length r.1.now < length text.now) }
+    ensures only { IsErrOf result Fault.Malformed → SpellsNoArgument kind (words text.now) }
+{
+    if kind == Kind::Expression {
+        let (e, rest) = read_expr(alloc, text)?;
+        return Ok((Argument::Expr(e), rest));
+    }
+    let Some((word, rest)) = next_word(text) else {
+        return Err(Fault::Malformed);
+    };
+    match word_argument(kind, word) {
+        Some(argument) => Ok((argument, rest)),
         None => Err(Fault::Malformed),
     }
 }
 
-/// An operation on one expression.
-fn one<'a>(alloc: Global, word: Word1, e: Expr<'a>) -> Result<Expr<'a>, NoMemory>
-    ensures { IfOk result (λ r. tree_of r ≡ One word (tree_of e.entry)) }
+/// The arguments of a head, with commas between them, up to `)`.
+#[cycle(expressions)]
+fn read_arguments<'a>(
+    alloc: Global,
+    head: Head,
+    text: &'a [u8],
+) -> Result<(Gathered<'a>, &'a [u8]), Fault>
+    ensures found { IfOk result (λ r. AreGathered head r.0 (words text.now) (words r.1.now)) }
+    ensures shape { IfOk result (λ r. HasShape head r.0) }
+    ensures shorter { IfOk result (λ r. length r.1.now < length text.now) }
+    ensures only { IsErrOf result Fault.Malformed → SpellsNoArguments head (words text.now) }
 {
-    Ok(Expr::One(word, Box::new(alloc, e)?))
+    let mut args = Gathered::new(alloc, head);
+    let rest = gather(alloc, head, &mut args, text)?;
+    Ok((args, rest))
 }
 
-/// The arguments of a fold.
+/// Gathers the arguments of a head where there are none so far.
 #[cycle(expressions)]
-fn read_fold<'a>(alloc: Global, word: Word2, text: &'a [u8]) -> Result<(Expr<'a>, &'a [u8]), Fault>
-    ensures found { IfOk result (λ r. IsReadingInside (Call.Fold word) r.0 (words text.now) (words r.1.now)) }
-    ensures shorter { IfOk result (λ r. length r.1.now < length text.now) }
-    ensures only { IsErrOf result Fault.Malformed → SpellsNoneInside (Call.Fold word) (words text.now) }
+fn gather<'a>(
+    alloc: Global,
+    head: Head,
+    args: &mut Gathered<'a>,
+    text: &'a [u8],
+) -> Result<&'a [u8], Fault>
+    requires none { gathered args.old ≡ [] }
+    requires shape { HasShape head args.old }
+    ensures found { IfOk result (λ r. AreGathered head args.new (words text.now) (words r.now)) }
+    ensures shape { IfOk result (λ r. HasShape head args.new) }
+    ensures shorter { IfOk result (λ r. length r.now < length text.now) }
+    ensures only { IsErrOf result Fault.Malformed → SpellsNoArguments head (words text.now) }
 {
-    let (es, rest) = read_list(alloc, text)?;
-    if takes(word, es.items().len()) {
-        Ok((Expr::Fold(word, es), rest))
-    } else {
-        Err(Fault::Malformed)
-    }
-}
-
-/// The three arguments of `ite`.
-#[cycle(expressions)]
-fn read_ite<'a>(alloc: Global, text: &'a [u8]) -> Result<(Expr<'a>, &'a [u8]), Fault>
-    ensures found { IfOk result (λ r. IsReadingInside Call.Ite r.0 (words text.now) (words r.1.now)) }
-    ensures shorter { IfOk result (λ r. length r.1.now < length text.now) }
-    ensures only { IsErrOf result Fault.Malformed → SpellsNoneInside Call.Ite (words text.now) }
-{
-    let (es, rest) = read_list(alloc, text)?;
-    if es.items().len() == 3 {
-        Ok((Expr::Ite(es), rest))
-    } else {
-        Err(Fault::Malformed)
-    }
-}
-
-/// Arguments with commas between them, up to `)`.
-#[cycle(expressions)]
-fn read_list<'a>(alloc: Global, text: &'a [u8]) -> Result<(Exprs<'a>, &'a [u8]), Fault>
-    ensures found { IfOk result (λ r. AreReadings r.0.items.items (words text.now) (words r.1.now)) }
-    ensures shorter { IfOk result (λ r. length r.1.now < length text.now) }
-    ensures only { IsErrOf result Fault.Malformed → SpellsNoList (words text.now) }
-{
-    let mut es = Exprs::new(alloc);
-    let (e, mut end) = read_expr(alloc, text)?;
-    es.push(e)?;
+    let (first, mut end) = read_argument(alloc, kind_at(head, 0), text)?;
+    args.push(first)?;
     while let Some(more) = after(b',', end) {
-        let (e, rest) = read_expr(alloc, more)?;
-        es.push(e)?;
+        if args.is_full() {
+            return Err(Fault::Malformed);
+        }
+        let (argument, rest) = read_argument(alloc, kind_at(head, args.len()), more)?;
+        args.push(argument)?;
         end = rest;
     }
     match after(b')', end) {
-        Some(rest) => Ok((es, rest)),
+        Some(rest) => {
+            if takes(head, args.len()) {
+                Ok(rest)
+            } else {
+                Err(Fault::Malformed)
+            }
+        }
         None => Err(Fault::Malformed),
+    }
+}
+
+/// The call of a head with the arguments that it takes.
+fn call<'a>(alloc: Global, head: Head, args: Gathered<'a>) -> Result<Expr<'a>, NoMemory>
+    requires kinds { OfKinds (signature head).first (signature head).further (gathered args) }
+    requires shape { HasShape head args }
+    ensures { IfOk result (λ e. tree_of e ≡ Call head (held (gathered args.entry))) }
+{
+    match head {
+        Head::Const => {
+            let (level, n) = args.numbers();
+            Ok(Expr::Const(level, n))
+        }
+        Head::One(word) => Ok(Expr::One(word, Box::new(alloc, args.expr())?)),
+        Head::Fold(word) => Ok(Expr::Fold(word, args.exprs())),
+        Head::Ite => Ok(Expr::Ite(args.exprs())),
     }
 }

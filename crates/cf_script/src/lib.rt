@@ -1,6 +1,7 @@
 // The statements that the lines of a script spell.
 #![tactic(auto)]
 
+pub(crate) mod arguments;
 pub(crate) mod expressions;
 pub mod faults;
 pub(crate) mod numbers;
@@ -10,4 +11,4 @@ pub(crate) mod words;
 
 pub use faults::ScriptFault;
 pub use statements::parse_line;
-pub use trees::{Expr, Exprs, NameSlices, Statement};
+pub use trees::{Expr, Exprs, NameSlices, Statement, Var};

@@ -7,6 +7,8 @@ ghost use Rattle.std.specs.Option.{option_map};
 ghost use Rattle.cf_model.specs.Values.{fitting};
 ghost use Rattle.cf_reference.specs.Words.{decimal_value, natural as natural_of, number as number_of, place as place_of};
 
+use crate::words::behind;
+
 /// The number that a digit makes of a number that is not above 0, if it fits.
 fn with_digit(value: i128, digit: u8) -> Option<i128>
     requires low { value ≤ℤ pos 0 }
@@ -57,17 +59,6 @@ pub(crate) fn natural(word: &[u8]) -> Option<Option<i128>>
     match negative(word) {
         Some(value) => Some(opposite(value)),
         None => Some(None),
-    }
-}
-
-/// The bytes behind a byte, if it comes first.
-fn behind(first: u8, word: &[u8]) -> Option<&[u8]>
-    ensures found { IfSome result (λ r. word.now ≡ first ∷ r.now) }
-    ensures none { IfNone result ((rest : List ℕ) → word.now ≡ first ∷ rest → ⊥) }
-{
-    match word.split_first() {
-        Some((b, rest)) => { if *b == first { Some(rest) } else { None } }
-        None => None,
     }
 }
 

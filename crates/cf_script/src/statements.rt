@@ -45,13 +45,19 @@ pub fn parse_line<'a>(alloc: Global, line: &'a [u8]) -> Result<Statement<'a>, Sc
 fn is_deep(text: &[u8]) -> bool
     ensures { IsTrue result ↔ IsDeep text.now }
 {
+    if text.len() <= 64 {
+        return false;
+    }
     let mut opened = 0usize;
     let mut closed = 0usize;
     for b in text {
-        opened += usize::from(*b == b'(');
-        closed += usize::from(*b == b')');
-        if opened.saturating_sub(closed) > 64 {
-            return true;
+        if *b == b'(' {
+            opened += 1;
+            if opened.saturating_sub(closed) > 64 {
+                return true;
+            }
+        } else if *b == b')' {
+            closed += 1;
         }
     }
     false
@@ -213,10 +219,13 @@ fn read_let<'a>(alloc: Global, text: &'a [u8]) -> Result<Statement<'a>, ScriptFa
     }
 }
 
-/// Whether a word is a number that doesn't fit, or a position that doesn't.
+/// Whether a word is a number that doesn't fit, or a position that doesn't. Any 38 digits fit.
 fn is_wide(word: &[u8]) -> bool
     ensures { result ≡ is_wide_word word.now }
 {
+    if word.len() <= 38 {
+        return false;
+    }
     number(word) == Some(None) || place(word) == Some(None)
 }
 

@@ -26,6 +26,15 @@ pub enum Expr<'a> {
     Ite(Exprs<'a>),
 }
 
+/// A variable.
+#[derive(Clone, Copy, Drop)]
+pub enum Var<'a> {
+    /// By its position.
+    At(i128),
+    /// By its name, a slice of the line.
+    Named(&'a [u8]),
+}
+
 /// A list of expressions.
 #[derive(Drop)]
 #[cycle(expr)]

@@ -1,24 +1,19 @@
 //! The words of a line.
 
-ghost use Rattle.std.specs.Prelude.{◌≡◌, ◌<◌, ◌≤◌, ◌==◌, false, not, List, [], ◌∷◌, length, take, drop, get_or, position, IfSome, IfNone, ◌||◌, ℕ};
+ghost use Rattle.std.specs.Prelude.{◌≡◌, ◌<◌, ◌≤◌, ◌==◌, false, not, true, List, [], ◌∷◌, length, take, drop, get_or, position, IfSome, IfNone, ◌||◌, ℕ};
 ghost use Rattle.std.specs.List.{list_all};
 ghost use Rattle.cf_reference.specs.Words.{before_comment as before_comment_of, words, is_blank as is_blank_byte, is_sign as is_sign_byte, runs as runs_byte, begins_name as begins_name_byte, continues_name as continues_name_byte, is_name as is_name_word, is_bits as is_bits_word};
+
+use memchr::memchr;
 
 /// The part of a line before its first `#`.
 pub(crate) fn before_comment(line: &[u8]) -> &[u8]
     ensures { result.now ≡ before_comment_of line.now }
 {
-    match comment_start(line) {
+    match memchr(b'#', line) {
         Some(end) => &line[..end],
         None => line,
     }
-}
-
-fn comment_start(line: &[u8]) -> Option<usize>
-    ensures place { result ≡ position (λ b. b == 35) line.now }
-    ensures within { IfSome result (λ place. place < length line.now) }
-{
-    line.iter().position(|b| *b == b'#')
 }
 
 fn is_blank(b: u8) -> bool
@@ -94,20 +89,27 @@ fn run_end(text: &[u8]) -> Option<usize>
     text.iter().position(|b| !runs(*b))
 }
 
+/// The bytes behind a byte, if it comes first.
+pub(crate) fn behind(first: u8, word: &[u8]) -> Option<&[u8]>
+    ensures found { IfSome result (λ r. word.now ≡ first ∷ r.now) }
+    ensures none { IfNone result ((rest : List ℕ) → word.now ≡ first ∷ rest → ⊥) }
+{
+    match word.split_first() {
+        Some((b, rest)) => { if *b == first { Some(rest) } else { None } }
+        None => None,
+    }
+}
+
 /// The text behind a sign, if it is the first word.
 pub(crate) fn after(sign: u8, text: &[u8]) -> Option<&[u8]>
+    requires visible { is_blank_byte sign ≡ false }
+    requires sign { is_sign_byte sign ≡ true }
     ensures found { IfSome result (λ r. words text.now ≡ (sign ∷ []) ∷ words r.now) }
     ensures none { IfNone result ((rest : List (List ℕ)) → words text.now ≡ (sign ∷ []) ∷ rest → ⊥) }
     ensures shorter { IfSome result (λ r. length r.now < length text.now) }
 {
-    match next_word(text) {
-        Some((word, rest)) => {
-            if word == [sign].as_slice() {
-                Some(rest)
-            } else {
-                None
-            }
-        }
+    match skip_blanks(text) {
+        Some(text) => behind(sign, text),
         None => None,
     }
 }

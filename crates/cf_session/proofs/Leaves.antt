@@ -4,11 +4,11 @@ use Rattle.std.specs.Prelude.{nat_abs}
 use Rattle.cf_model.specs.FlatFunctions.{IsFlatFunction, tabulated, variable}
 use Rattle.cf_pkg.specs.declared.Func.{Func}
 use Rattle.cf_pkg.specs.Packages.{Package, Means, meaning}
-use Rattle.cf_reference.specs.Trees.{Num, At, Const}
+use Rattle.cf_reference.specs.Trees.{Num, At}
 use Rattle.cf_reference.specs.States.{State, level_in}
 use Rattle.cf_session.specs.declared.faults.StepFault.{StepFault}
 use Rattle.cf_session.specs.Building.{Builds}
-use Rattle.cf_session.proofs.Arguments.{number_built, constant_built, bit_built}
+use Rattle.cf_session.proofs.Built.{number_built, bit_built}
 
 -- two facts of an answer that come to a third
 pub if_both : {A E : Type 0} (r : Result A E) (P Q R : A → Type 0) → ((x : A) → P x → Q x → R x) → IfOk r P → IfOk r Q → IfOk r R
@@ -26,12 +26,6 @@ pub number_made : (r : Result Func StepFault) (s : State) (k : ℕ) (m n : ℤ) 
 number_made r s k m n p e h =
     if_both r (λ f. Means p f (tabulated k (λ bits. m))) (λ f. IsFlatFunction (meaning p f)) (λ f. Builds s (Num n) p f)
     (λ f means flat. number_built s n p f (told p f k (level_in s) m n e h means) flat)
-
-pub constant_made : (r : Result Func StepFault) (s : State) (k : ℕ) (j m n : ℤ) (p : Package) → k ≡ nat_abs j → m ≡ n
-    → IfOk r (λ f. Means p f (tabulated k (λ bits. m))) → IfOk r (λ f. IsFlatFunction (meaning p f)) → IfOk r (λ f. Builds s (Const j n) p f)
-constant_made r s k j m n p e h =
-    if_both r (λ f. Means p f (tabulated k (λ bits. m))) (λ f. IsFlatFunction (meaning p f)) (λ f. Builds s (Const j n) p f)
-    (λ f means flat. constant_built s j n p f (told p f k (nat_abs j) m n e h means) flat)
 
 pub bit_made : (r : Result Func StepFault) (s : State) (k i : ℕ) (j : ℤ) (p : Package) → k ≡ level_in s → i ≡ nat_abs j
     → IfOk r (λ f. Means p f (variable k i)) → IfOk r (λ f. IsFlatFunction (meaning p f)) → IfOk r (λ f. Builds s (At j) p f)

@@ -1,13 +1,16 @@
 mod NameFacts
 mod NamedFacts
 mod WalkFacts
+pub mod Shapes
 pub mod Growth
-pub mod Arguments
+pub mod Built
 pub mod Walked
+pub mod Jobs
+pub mod Gathering
 pub mod Leaves
-pub mod Folds
-pub mod Choices
+pub mod Nesting
 pub mod Listed
+pub mod Places
 pub mod Turns
 pub mod ListFacts
 pub mod StatementFacts

@@ -1,35 +1,29 @@
 -- The arguments of a call as a list.
-use Rattle.std.proofs.Common.{ℕ, zero, suc, ◌-◌, ◌≤◌, ◌<◌, ◌==◌, ◌≡◌, max, List, [], ◌∷◌, length, get_or, take, drop, None, refl, ap, sym, subst, ◌∙◌, arith}
+use Rattle.std.proofs.Common.{ℕ, zero, suc, ◌-◌, ◌≤◌, ◌<◌, ◌≡◌, max, List, [], ◌∷◌, length, get_or, take, drop, true, None, refl, ap, sym, subst, ◌∙◌, arith}
 use Rattle.std.specs.Prelude.{IsTrue}
+use Rattle.std.proofs.lemmas.Bool.{false≢true}
 use Rattle.std.proofs.lemmas.Bool.Decides.{nat_tests}
 use Rattle.cf_model.specs.declared.terms.Word2.{Word2}
 use Rattle.cf_model.specs.declared.terms.Word2.TheVariants.{And, Or, Xor, Plus, Minus, Times, Min, Max, Eq, Lt}
-use Rattle.cf_reference.specs.Trees.{Fold, Ite, count, takes, depth, depths, IsFormed, AreFormed}
+use Rattle.cf_reference.specs.declared.grammar.Head.{Head}
+use Rattle.cf_reference.specs.declared.grammar.Head.TheVariants.{Const, One, Fold, Ite}
+use Rattle.cf_reference.specs.Heads.{takes}
+use Rattle.cf_reference.specs.Calls.{is_nested}
+use Rattle.cf_reference.specs.Trees.{count, depth, depths, IsFormed, AreFormed}
 use Rattle.cf_reference.specs.States.{State}
 use Rattle.cf_reference.specs.Expressions.{walk, walks}
 use Rattle.cf_reference.proofs.ExpressionLaws.{walks-more}
 use Rattle.cf_reference.proofs.TestFacts.{or_none_first, or_none_second}
 use Rattle.cf_script.specs.declared.trees.Expr.{Expr}
-use Rattle.cf_script.specs.declared.trees.Expr as expr
-use Rattle.cf_script.specs.declared.trees.Exprs.{Exprs}
 use Rattle.cf_script.specs.Views.{tree_of, listed}
-use Rattle.cf_script.proofs.Rows.{fold_listed, ite_listed}
-
-pub fold_read : (e : Expr) (word : Word2) (es : Exprs) (items : List Expr) → e ≡ expr.Fold word es → items ≡ es.items.items
-    → tree_of e ≡ Fold word (listed items)
-fold_read e word es items is read = ap tree_of is ∙ fold_listed word es ∙ ap (λ (l : List Expr). Fold word (listed l)) (sym read)
-
-pub ite_read : (e : Expr) (es : Exprs) (items : List Expr) → e ≡ expr.Ite es → items ≡ es.items.items
-    → tree_of e ≡ Ite (listed items)
-ite_read e es items is read = ap tree_of is ∙ ite_listed es ∙ ap (λ (l : List Expr). Ite (listed l)) (sym read)
 
 -- as many trees as expressions
-count_listed : (es : List Expr) → count (listed es) ≡ length es
+pub count_listed : (es : List Expr) → count (listed es) ≡ length es
 count_listed [] = refl
 count_listed (e ∷ es) = omega (arith, count_listed es)
 
--- a fold has an argument, and a choice has three
-takes_some : (word : Word2) (n : ℕ) → IsTrue (takes word n) → 1 ≤ n
+-- a fold has an argument
+takes_some : (word : Word2) (n : ℕ) → IsTrue (takes (Fold word) n) → 1 ≤ n
 takes_some Minus n h = grind (arith, nat_tests)
 takes_some Eq n h = grind (arith, nat_tests)
 takes_some Lt n h = grind (arith, nat_tests)
@@ -41,21 +35,18 @@ takes_some Times n h = grind (arith, nat_tests)
 takes_some Min n h = grind (arith, nat_tests)
 takes_some Max n h = grind (arith, nat_tests)
 
-pub fold_long : (word : Word2) (es : List Expr) → IsTrue (takes word (count (listed es))) → 1 ≤ length es
-fold_long word es h = omega (arith, takes_some word (count (listed es)) h, count_listed es)
-
-same_count : (n : ℕ) → IsTrue (n == 3) → n ≡ 3
-same_count n h = grind (arith, nat_tests)
-
-pub ite_long : (es : List Expr) → IsTrue (count (listed es) == 3) → length es ≡ 3
-ite_long es h = sym (count_listed es) ∙ same_count (count (listed es)) h
+pub nested_long : (head : Head) (es : List Expr) → is_nested head ≡ true → IsTrue (takes head (count (listed es))) → 1 ≤ length es
+nested_long Const es n h = absurd (false≢true n)
+nested_long (One word) es n h = absurd (false≢true n)
+nested_long (Fold word) es n h = omega (arith, takes_some word (count (listed es)) h, count_listed es)
+nested_long Ite es n h = absurd (false≢true n)
 
 -- What is known of a call's arguments is known of each of them.
-pub item_formed : (es : List Expr) (i : ℕ) (e : Expr) → e ≡ get_or es i e → i < length es → AreFormed (listed es)
+pub item_formed : (head : Head) (place : ℕ) (es : List Expr) (i : ℕ) (e : Expr) → e ≡ get_or es i e → i < length es → AreFormed head place (listed es)
     → IsFormed (tree_of e)
-item_formed [] i e is h formed = absurd (omega (arith, h))
-item_formed (x ∷ xs) zero e is h formed = subst (λ (u : Expr). IsFormed (tree_of u)) (sym is) formed.0
-item_formed (x ∷ xs) (suc i) e is h formed = item_formed xs i e is (omega (arith, h)) formed.1
+item_formed head place [] i e is h formed = absurd (omega (arith, h))
+item_formed head place (x ∷ xs) zero e is h formed = subst (λ (u : Expr). IsFormed (tree_of u)) (sym is) formed.1
+item_formed head place (x ∷ xs) (suc i) e is h formed = item_formed head (suc place) xs i e is (omega (arith, h)) formed.2
 
 pub item_walked : (s : State) (es : List Expr) (i : ℕ) (e : Expr) → e ≡ get_or es i e → i < length es
     → walks s (listed es) ≡ None → walk s (tree_of e) ≡ None
@@ -111,13 +102,3 @@ none_left [] zero h = refl
 none_left [] (suc i) h = refl
 none_left (x ∷ xs) zero h = absurd (omega (arith, h))
 none_left (x ∷ xs) (suc i) h = none_left xs i (omega (arith, h))
-
--- three arguments
-pub three_of : (es : List Expr) (a b c : Expr) → length es ≡ 3 → a ≡ get_or es 0 a → b ≡ get_or es 1 b → c ≡ get_or es 2 c
-    → es ≡ a ∷ b ∷ c ∷ []
-three_of [] a b c h p q r = absurd (omega (arith, h))
-three_of (x ∷ []) a b c h p q r = absurd (omega (arith, h))
-three_of (x ∷ y ∷ []) a b c h p q r = absurd (omega (arith, h))
-three_of (x ∷ y ∷ z ∷ []) a b c h p q r =
-    ap (λ (u : Expr). u ∷ y ∷ z ∷ []) (sym p) ∙ ap (λ (u : Expr). a ∷ u ∷ z ∷ []) (sym q) ∙ ap (λ (u : Expr). a ∷ b ∷ u ∷ []) (sym r)
-three_of (x ∷ y ∷ z ∷ w ∷ rest) a b c h p q r = absurd (omega (arith, h))

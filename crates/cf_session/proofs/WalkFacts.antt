@@ -1,22 +1,28 @@
 -- The levels and the first refusal of an expression and of the arguments of a call.
-use Rattle.std.proofs.Common.{ℕ, ℤ, zero, suc, ◌≡◌, ◌^◌, Bool, true, false, ◌&&◌, List, [], ◌∷◌, ◌++◌, refl, sym, ◌∙◌, ap, Option, Some, None, IsNone, IfErr, IsErrAnd, Ok, Err, subst, arith, ◌+◌}
-use Rattle.std.specs.Prelude.{slice_get, take, ◌==◌, nat_abs, is_some, unwrap_or}
+use Rattle.std.proofs.Common.{ℕ, ℤ, suc, pos, ◌≡◌, ◌^◌, ◌+◌, ◌≤◌, ◌<◌, ◌&&◌, cond, not, Bool, true, false, List, [], ◌∷◌, ◌++◌, refl, sym, ◌∙◌, ap, Option, Some, None, IsNone, IfErr, IsErrAnd, Ok, Err, subst, arith, append_assoc, max}
+use Rattle.std.specs.Prelude.{◌==◌, nat_le, nat_lt, negsuc, is_some, unwrap_or}
 use Rattle.std.specs.List.{list_all}
 use Rattle.std.specs.Option.{option_or}
-use Rattle.std.proofs.lemmas.Option.{same_Some, none-some}
 use Rattle.std.specs.declared.result.Result.{Result}
 use Rattle.std.proofs.lemmas.Bool.{false≢true}
+use Rattle.std.proofs.lemmas.Bool.Decides.{nat_tests}
+use Rattle.std.proofs.Math.Pow.{pow_mono}
 use Rattle.cf_model.specs.FlatFunctions.{FlatFunction}
-use Rattle.cf_model.specs.declared.terms.Word1.{Word1}
-use Rattle.cf_model.specs.declared.terms.Word2.{Word2}
-use Rattle.cf_reference.specs.Trees.{Tree, Trees, Num, At, Named, Const, One, Fold, Ite, none}
+use Rattle.cf_reference.specs.declared.grammar.Head.{Head}
+use Rattle.cf_reference.specs.Heads.{signature}
+use Rattle.cf_reference.specs.Trees.{Tree, Num, At, Named, Call, Arguments, none, more, atom, Atom, count, IsFormed, AreFormed}
+use Rattle.cf_reference.specs.Trees as tree
 use Rattle.cf_reference.specs.Reasons.{Refusal, NoName, LevelsDiffer, BadLevel, OutOfRange, unless}
 use Rattle.cf_reference.specs.States.{State, level_in, is_below, named, nothing}
-use Rattle.cf_reference.specs.Expressions.{level, levels, common, are_equal, walk, walks}
-use Rattle.cf_reference.proofs.TestFacts.{or_none_first}
-use Rattle.cf_script.specs.declared.trees.Expr.{Expr}
-use Rattle.cf_script.specs.Views.{tree_of, listed}
-use Rattle.cf_session.specs.Walks.{HasLevel, HaveLevel, walk_call, first_of, agrees, HasWalked}
+use Rattle.cf_reference.specs.Calls.{Part, flat, Meant, Function, Position, Number, levels, positions, common, are_equal, exact, call_refusal}
+use Rattle.cf_reference.specs.Expressions.{part, walk, walks, walk_atom, meant}
+use Rattle.cf_reference.proofs.ExpressionLaws.{part-Call, meant-none, meant-more, meant-atom, walks-none, walks-more, walks-atom}
+use Rattle.cf_reference.proofs.WalkLaws.{walk-Call-goes, walk-Call-refused}
+use Rattle.cf_reference.proofs.TestFacts.{le_is}
+use Rattle.cf_session.specs.declared.walk.Walked.{Walked}
+use Rattle.cf_session.specs.Arguments.{arguments_of, IsCall, from_place, OfKinds}
+use Rattle.cf_session.specs.Walks.{HasLevel, HasPosition, first_of, agrees, variables_for, numbers, Shows, Notes, level_by, IsLevelled, IsRuled, IsRefused}
+use Rattle.cf_session.proofs.Shapes.{of-formed, levelled}
 
 pub none-is : {A : Type 0} (o : Option A) → IsNone o → o ≡ None
 none-is None e = refl
@@ -29,11 +35,11 @@ handed-on (Err e) x Q h q = subst Q (sym h) q
 
 -- each kind of expression
 pub num-level : (s : State) (n : ℤ) (l : ℕ) → l ≡ level_in s → HasLevel s (Num n) l
-unfolding level walk
+unfolding part walk
 num-level s n l e = record { walked = refl; is_it = sym e }
 
 pub at-level : (s : State) (i : ℤ) (l : ℕ) → is_below i (2 ^ level_in s) ≡ true → l ≡ level_in s → HasLevel s (At i) l
-unfolding level walk
+unfolding part walk
 at-level s i l b e = record { walked = ap (λ t. unless t OutOfRange) b; is_it = sym e }
 
 pub at-refused : (s : State) (i : ℤ) → is_below i (2 ^ level_in s) ≡ false → walk s (At i) ≡ Some OutOfRange
@@ -41,7 +47,7 @@ unfolding walk
 at-refused s i b = ap (λ t. unless t OutOfRange) b
 
 pub named-level : (s : State) (name : List ℕ) (f : FlatFunction) → named s name ≡ Some f → HasLevel s (Named name) f.level
-unfolding level walk
+unfolding part walk
 named-level s name f e = record {
   walked = ap (λ (o : Option FlatFunction). unless (is_some o) NoName) e;
   is_it = ap (λ (o : Option FlatFunction). (unwrap_or o nothing).level) e;
@@ -51,139 +57,343 @@ pub named-refused : (s : State) (name : List ℕ) → named s name ≡ None → 
 unfolding walk
 named-refused s name e = ap (λ (o : Option FlatFunction). unless (is_some o) NoName) e
 
-pub const-level : (s : State) (j n : ℤ) (l : ℕ) → is_below j 8 ≡ true → nat_abs j ≡ l → HasLevel s (Const j n) l
-unfolding level walk
-const-level s j n l b e = record { walked = ap (λ t. unless t BadLevel) b; is_it = e }
+le_true : (m n : ℕ) → m ≤ n → nat_le m n ≡ true
+le_true m n h = grind (arith, nat_tests)
 
-pub const-refused : (s : State) (j n : ℤ) → is_below j 8 ≡ false → walk s (Const j n) ≡ Some BadLevel
-unfolding walk
-const-refused s j n b = ap (λ t. unless t BadLevel) b
+le_false : (m n : ℕ) → n < m → nat_le m n ≡ false
+le_false m n h = grind (arith, nat_tests)
 
-pub one-level : (s : State) (word : Word1) (e : Tree) (l : ℕ) → HasLevel s e l → HasLevel s (One word e) l
-unfolding level walk
-one-level s word e l h = record { walked = h.walked; is_it = h.is_it }
+lt_is : (m n : ℕ) → nat_le m n ≡ false → n < m
+lt_is m n h = grind (arith, nat_tests)
 
-pub one-refused : (s : State) (word : Word1) (e : Tree) → walk s (One word e) ≡ walk s e
-unfolding walk
-one-refused s word e = refl
+below : (m n : ℕ) → n ≤ 128 → nat_lt m n ≡ true → suc m ≤ 128
+below m n few h = omega (arith, few, lt_true m n h)
+  where
+    lt_true : (m n : ℕ) → nat_lt m n ≡ true → m < n
+    lt_true m n h = grind (arith, nat_tests)
 
--- a call of several, by its arguments
-call_walked : (s : State) (es : Trees) (l : ℕ) → HaveLevel s es l → walk_call s es ≡ None
-call_walked s es l h =
-    ap (λ o. option_or o (unless (are_equal (levels s es)) LevelsDiffer)) h.walked
-    ∙ ap (λ t. unless t LevelsDiffer) h.equal
+lt_next : (m n : ℕ) → nat_lt m n ≡ nat_le (m + 1) n
+lt_next m n = let e : suc m ≡ m + 1 = omega arith in ap (λ k. nat_le k n) e
 
-pub fold-level : (s : State) (word : Word2) (es : Trees) (l : ℕ) → HaveLevel s es l → HasLevel s (Fold word es) l
-unfolding level walk
-fold-level s word es l h = record { walked = call_walked s es l h; is_it = h.is_it }
+-- What was noted of some arguments, and of one more.
+levels-push : (args : List Meant) (f : FlatFunction) → levels (args ++ Function f ∷ []) ≡ levels args ++ f.level ∷ []
+levels-push [] f = refl
+levels-push (Function g ∷ args) f = ap (λ l. g.level ∷ l) (levels-push args f)
+levels-push (Position i ∷ args) f = levels-push args f
+levels-push (Number n ∷ args) f = levels-push args f
 
-pub fold-refused : (s : State) (word : Word2) (es : Trees) → walk s (Fold word es) ≡ walk_call s es
-unfolding walk
-fold-refused s word es = refl
+levels-kept : (args : List Meant) (m : Meant) → levels (m ∷ []) ≡ [] → levels (args ++ m ∷ []) ≡ levels args
+levels-kept [] m e = e
+levels-kept (Function g ∷ args) m e = ap (λ l. g.level ∷ l) (levels-kept args m e)
+levels-kept (Position i ∷ args) m e = levels-kept args m e
+levels-kept (Number n ∷ args) m e = levels-kept args m e
 
-pub ite-level : (s : State) (es : Trees) (l : ℕ) → HaveLevel s es l → HasLevel s (Ite es) l
-unfolding level walk
-ite-level s es l h = record { walked = call_walked s es l h; is_it = h.is_it }
+positions-push : (args : List Meant) (i : ℤ) → positions (args ++ Position i ∷ []) ≡ positions args ++ i ∷ []
+positions-push [] i = refl
+positions-push (Function g ∷ args) i = positions-push args i
+positions-push (Position j ∷ args) i = ap (λ l. j ∷ l) (positions-push args i)
+positions-push (Number n ∷ args) i = positions-push args i
 
-pub ite-refused : (s : State) (es : Trees) → walk s (Ite es) ≡ walk_call s es
-unfolding walk
-ite-refused s es = refl
+positions-kept : (args : List Meant) (m : Meant) → positions (m ∷ []) ≡ [] → positions (args ++ m ∷ []) ≡ positions args
+positions-kept [] m e = e
+positions-kept (Function g ∷ args) m e = positions-kept args m e
+positions-kept (Position i ∷ args) m e = ap (λ l. i ∷ l) (positions-kept args m e)
+positions-kept (Number n ∷ args) m e = positions-kept args m e
 
--- the arguments from left to right
-or_next : (a b : Option Refusal) → a ≡ None → option_or a b ≡ b
-or_next a b e = ap (λ o. option_or o b) e
+numbers-push : (args : List Meant) (n : ℤ) → numbers (args ++ Number n ∷ []) ≡ numbers args ++ n ∷ []
+numbers-push [] n = refl
+numbers-push (Function g ∷ args) n = numbers-push args n
+numbers-push (Position j ∷ args) n = numbers-push args n
+numbers-push (Number m ∷ args) n = ap (λ l. m ∷ l) (numbers-push args n)
 
-pub walks-next : (s : State) (es : List Expr) (i : ℕ) (e : Expr) → slice_get es i ≡ Some e
-    → walks s (listed (take i es)) ≡ None → walk s (tree_of e) ≡ None → walks s (listed (take (suc i) es)) ≡ None
-unfolding walk
-walks-next s [] i e h w v = absurd (none-some e h)
-walks-next s (d ∷ es) zero e h w v =
-    or_next (walk s (tree_of d)) None (ap (λ x. walk s (tree_of x)) (same_Some d e h) ∙ v)
-walks-next s (d ∷ es) (suc i) e h w v =
-    let first = or_none_first (walk s (tree_of d)) (walks s (listed (take i es))) w in
-    or_next (walk s (tree_of d)) (walks s (listed (take (suc i) es))) first
-    ∙ walks-next s es i e h (sym (or_next (walk s (tree_of d)) (walks s (listed (take i es))) first) ∙ w) v
+numbers-kept : (args : List Meant) (m : Meant) → numbers (m ∷ []) ≡ [] → numbers (args ++ m ∷ []) ≡ numbers args
+numbers-kept [] m e = e
+numbers-kept (Function g ∷ args) m e = numbers-kept args m e
+numbers-kept (Position i ∷ args) m e = numbers-kept args m e
+numbers-kept (Number n ∷ args) m e = ap (λ l. n ∷ l) (numbers-kept args m e)
 
-pub walks-refused : (s : State) (es : List Expr) (i : ℕ) (e : Expr) (r : Refusal) → slice_get es i ≡ Some e
-    → walks s (listed (take i es)) ≡ None → walk s (tree_of e) ≡ Some r → walks s (listed es) ≡ Some r
-unfolding walk
-walks-refused s [] i e r h w v = absurd (none-some e h)
-walks-refused s (d ∷ es) zero e r h w v =
-    ap (λ o. option_or o (walks s (listed es))) (ap (λ x. walk s (tree_of x)) (same_Some d e h) ∙ v)
-walks-refused s (d ∷ es) (suc i) e r h w v =
-    let first = or_none_first (walk s (tree_of d)) (walks s (listed (take i es))) w in
-    or_next (walk s (tree_of d)) (walks s (listed es)) first
-    ∙ walks-refused s es i e r h (sym (or_next (walk s (tree_of d)) (walks s (listed (take i es))) first) ∙ w) v
-
-pub levels-next : (s : State) (es : List Expr) (i : ℕ) (e : Expr) → slice_get es i ≡ Some e
-    → levels s (listed (take (suc i) es)) ≡ levels s (listed (take i es)) ++ level s (tree_of e) ∷ []
-unfolding level
-levels-next s [] i e h = absurd (none-some e h)
-levels-next s (d ∷ es) zero e h = ap (λ x. level s (tree_of x) ∷ []) (same_Some d e h)
-levels-next s (d ∷ es) (suc i) e h = ap (λ ls. level s (tree_of d) ∷ ls) (levels-next s es i e h)
-
-all-push : (l : ℕ) (ls : List ℕ) (m : ℕ)
-    → list_all (λ other. other == l) (ls ++ m ∷ []) ≡ list_all (λ other. other == l) ls && m == l
-all-push l [] m = by (m == l)
+all-push : {A : Type 0} (p : A → Bool) (xs : List A) (x : A) → list_all p (xs ++ x ∷ []) ≡ list_all p xs && p x
+all-push p [] x = by (p x)
   where
     by : (b : Bool) → b && true ≡ b
     by true = refl
     by false = refl
-all-push l (k ∷ ls) m = by (k == l) (all-push l ls m)
+all-push p (y ∷ xs) x = by (p y) (all-push p xs x)
   where
-    by : (b : Bool) → list_all (λ other. other == l) (ls ++ m ∷ []) ≡ list_all (λ other. other == l) ls && m == l
-        → b && list_all (λ other. other == l) (ls ++ m ∷ []) ≡ (b && list_all (λ other. other == l) ls) && m == l
+    by : (b : Bool) → list_all p (xs ++ x ∷ []) ≡ list_all p xs && p x → b && list_all p (xs ++ x ∷ []) ≡ (b && list_all p xs) && p x
     by true later = later
     by false later = refl
 
 equal-push : (ls : List ℕ) (m : ℕ) → are_equal (ls ++ m ∷ []) ≡ are_equal ls && agrees (first_of ls) m
 equal-push [] m = refl
-equal-push (l ∷ ls) m = all-push l ls m
+equal-push (l ∷ ls) m = all-push (λ other. other == l) ls m
 
-first-push : (ls : List ℕ) (m : ℕ) → option_or (first_of ls) (Some m) ≡ first_of (ls ++ m ∷ [])
-first-push [] m = refl
-first-push (l ∷ ls) m = refl
-
-pub has-walked-none : (s : State) → HasWalked s none None true
-unfolding level walk
-has-walked-none s = record { walked = refl; first_is = refl; equal_is = refl }
-
-pub has-walked-next : (s : State) (es : List Expr) (i : ℕ) (e : Expr) (l : ℕ) (first : Option ℕ) (equal : Bool)
-    → slice_get es i ≡ Some e → HasWalked s (listed (take i es)) first equal → HasLevel s (tree_of e) l
-    → HasWalked s (listed (take (i + 1) es)) (option_or first (Some l)) (equal && agrees first l)
-has-walked-next s es i e l first equal h w v =
-    let one : suc i ≡ i + 1 = omega arith in
-    let before = levels s (listed (take i es)) in
-    let grown = levels-next s es i e h ∙ ap (λ m. before ++ m ∷ []) v.is_it in
-    subst (λ n. HasWalked s (listed (take n es)) (option_or first (Some l)) (equal && agrees first l)) one
-    (record {
-      walked = walks-next s es i e h w.walked v.walked;
-      first_is = ap (λ o. option_or o (Some l)) w.first_is ∙ first-push before l ∙ ap first_of (sym grown);
-      equal_is =
-          ap (λ o. equal && agrees o l) w.first_is ∙ ap (λ b. b && agrees (first_of before) l) w.equal_is
-          ∙ sym (equal-push before l) ∙ ap are_equal (sym grown);
-    })
+first-push : {A : Type 0} (xs : List A) (x : A) → option_or (first_of xs) (Some x) ≡ first_of (xs ++ x ∷ [])
+first-push [] x = refl
+first-push (y ∷ xs) x = refl
 
 common-first : (ls : List ℕ) → unwrap_or (first_of ls) 0 ≡ common ls
 common-first [] = refl
 common-first (l ∷ ls) = refl
 
--- all of them
-pub all-equal : (s : State) (es : Trees) (first : Option ℕ) (equal : Bool) → HasWalked s es first equal → equal ≡ true
-    → HaveLevel s es (unwrap_or first 0)
-all-equal s es first equal h e = record {
-  walked = h.walked;
-  equal = sym h.equal_is ∙ e;
-  is_it = sym (ap (λ o. unwrap_or o 0) h.first_is ∙ common-first (levels s es));
+low-or : (o : Option ℕ) (l : ℕ) → unwrap_or o 0 ≤ 7 → l ≤ 7 → unwrap_or (option_or o (Some l)) 0 ≤ 7
+low-or None l h k = k
+low-or (Some x) l h k = h
+
+pub shows-none : (v : Walked) → v.common ≡ None → v.equal ≡ true → v.wanted ≡ 0 → v.number ≡ None → Shows v []
+shows-none v c e w n = record {
+  low = (let z : unwrap_or v.common 0 ≡ 0 = ap (λ (o : Option ℕ). unwrap_or o 0) c in omega (arith, z));
+  first = c;
+  equal = e;
+  wanted = λ k h. sym (ap (λ m. nat_le m k) w ∙ le_true 0 k (omega arith));
+  number = n;
 }
 
-pub not-equal : (s : State) (es : Trees) (first : Option ℕ) (equal : Bool) → HasWalked s es first equal → equal ≡ false
-    → walk_call s es ≡ Some LevelsDiffer
-not-equal s es first equal h e =
-    ap (λ o. option_or o (unless (are_equal (levels s es)) LevelsDiffer)) h.walked
-    ∙ ap (λ t. unless t LevelsDiffer) (sym h.equal_is ∙ e)
+pub shows-function : (w v : Walked) (l : ℕ) → l ≤ 7 → v.common ≡ option_or w.common (Some l) → v.equal ≡ w.equal && agrees w.common l → v.wanted ≡ w.wanted → v.number ≡ w.number
+    → (f : FlatFunction) → f.level ≡ l → Notes w v (Function f)
+shows-function w v l low c e k n f is args h =
+    let grown = levels-push args f ∙ ap (λ m. levels args ++ m ∷ []) is in
+    record {
+      low = subst (λ (o : Option ℕ). unwrap_or o 0 ≤ 7) (sym c) (low-or w.common l h.low low);
+      first = c ∙ ap (λ o. option_or o (Some l)) h.first ∙ first-push (levels args) l ∙ ap first_of (sym grown);
+      equal = e ∙ ap (λ b. b && agrees w.common l) h.equal ∙ ap (λ o. are_equal (levels args) && agrees o l) h.first ∙ sym (equal-push (levels args) l) ∙ ap are_equal (sym grown);
+      wanted = λ m few. ap (list_all (λ i. is_below i m)) (positions-kept args (Function f) refl) ∙ h.wanted m few ∙ ap (λ x. nat_le x m) (sym k);
+      number = n ∙ h.number ∙ ap first_of (sym (numbers-kept args (Function f) refl));
+    }
 
-pub call-refused : (s : State) (es : List Expr) (i : ℕ) (e : Expr) (r : Refusal) → slice_get es i ≡ Some e
-    → walks s (listed (take i es)) ≡ None → walk s (tree_of e) ≡ Some r → walk_call s (listed es) ≡ Some r
-call-refused s es i e r h w v =
-    ap (λ o. option_or o (unless (are_equal (levels s (listed es))) LevelsDiffer)) (walks-refused s es i e r h w v)
+pub shows-number : (w v : Walked) (x : ℤ) → v.common ≡ w.common → v.equal ≡ w.equal → v.wanted ≡ w.wanted → v.number ≡ option_or w.number (Some x)
+    → Notes w v (Number x)
+shows-number w v x c e k n args h =
+    let kept = levels-kept args (Number x) refl in
+    record {
+      low = subst (λ (o : Option ℕ). unwrap_or o 0 ≤ 7) (sym c) h.low;
+      first = c ∙ h.first ∙ ap first_of (sym kept);
+      equal = e ∙ h.equal ∙ ap are_equal (sym kept);
+      wanted = λ m few. ap (list_all (λ i. is_below i m)) (positions-kept args (Number x) refl) ∙ h.wanted m few ∙ ap (λ y. nat_le y m) (sym k);
+      number = n ∙ ap (λ o. option_or o (Some x)) h.number ∙ first-push (numbers args) x ∙ ap first_of (sym (numbers-push args x));
+    }
+
+-- a position asks for so many variables
+wants-few : (m n : ℕ) (b : Bool) → n ≤ 128 → nat_lt m 128 ≡ b → nat_lt m n ≡ nat_le (cond b (m + 1) 255) n
+wants-few m n true few e = lt_next m n
+wants-few m n false few e = by (nat_lt m n) refl
+  where
+    by : (b : Bool) → nat_lt m n ≡ b → nat_lt m n ≡ nat_le 255 n
+    by true is = absurd (false≢true (sym e ∙ le_true (suc m) 128 (below m n few is)))
+    by false is = is ∙ sym (le_false 255 n (omega (arith, few)))
+
+wants : (i : ℤ) (n : ℕ) → n ≤ 128 → is_below i n ≡ nat_le (variables_for i) n
+wants (pos m) n few =
+    ap (λ b. b && nat_lt m n) (le_true 0 m (omega arith)) ∙ wants-few m n (nat_lt m 128) few refl
+    ∙ ap (λ b. nat_le (cond (b && nat_lt m 128) (m + 1) 255) n) (sym (le_true 0 m (omega arith)))
+wants (negsuc m) n few = sym (le_false 255 n (omega (arith, few)))
+
+both_within : (a b n : ℕ) → nat_le a n && nat_le b n ≡ nat_le (max a b) n
+both_within a b n = by (nat_le a n) (nat_le b n) refl refl
+  where
+    by : (x y : Bool) → nat_le a n ≡ x → nat_le b n ≡ y → x && y ≡ nat_le (max a b) n
+    by true true e f = sym (le_true (max a b) n (omega (arith, le_is a n e, le_is b n f)))
+    by true false e f = sym (le_false (max a b) n (omega (arith, lt_is b n f)))
+    by false y e f = sym (le_false (max a b) n (omega (arith, lt_is a n e)))
+
+pub max-second : (a b v : ℕ) → v ≡ b → a < v → v ≡ max a b
+max-second a b v e h = omega (arith, e, h)
+
+pub max-first : (a b v : ℕ) → v ≡ b → v ≤ a → a ≡ max a b
+max-first a b v e h = omega (arith, e, h)
+
+pub shows-position : (w v : Walked) (i : ℤ) → v.common ≡ w.common → v.equal ≡ w.equal → v.wanted ≡ max w.wanted (variables_for i) → v.number ≡ w.number
+    → Notes w v (Position i)
+shows-position w v i c e k n args h =
+    let kept = levels-kept args (Position i) refl in
+    record {
+      low = subst (λ (o : Option ℕ). unwrap_or o 0 ≤ 7) (sym c) h.low;
+      first = c ∙ h.first ∙ ap first_of (sym kept);
+      equal = e ∙ h.equal ∙ ap are_equal (sym kept);
+      wanted = λ m few.
+          ap (list_all (λ j. is_below j m)) (positions-push args i) ∙ all-push (λ j. is_below j m) (positions args) i
+          ∙ ap (λ b. b && is_below i m) (h.wanted m few) ∙ ap (λ b. nat_le w.wanted m && b) (wants i m few)
+          ∙ both_within w.wanted (variables_for i) m ∙ ap (λ y. nat_le y m) (sym k);
+      number = n ∙ h.number ∙ ap first_of (sym (numbers-kept args (Position i) refl));
+    }
+
+-- Arguments were walked up to a place, and none is refused.
+pub record Walking (s : State) (head : Head) (all : Arguments) (w : Walked) (place : ℕ) : Type 0 where
+  pub seen : List Meant
+  pub shows : Shows w seen
+  pub is_meant : meant s all ≡ seen ++ meant s (from_place place all)
+  pub is_walked : walks s all ≡ walks s (from_place place all)
+  pub formed : AreFormed head place (from_place place all)
+
+pub walking-none : (s : State) (head : Head) (all : Arguments) (w : Walked) → Shows w [] → AreFormed head 0 all → Walking s head all w 0
+walking-none s head all w h formed = record { seen = []; shows = h; is_meant = refl; is_walked = refl; formed = formed }
+
+moved : (s : State) (head : Head) (all : Arguments) (w v : Walked) (place : ℕ) (m : Meant) (h : Walking s head all w place)
+    → Shows v (h.seen ++ m ∷ []) → meant s (from_place place all) ≡ m ∷ meant s (from_place (suc place) all)
+    → walks s (from_place place all) ≡ walks s (from_place (suc place) all) → AreFormed head (suc place) (from_place (suc place) all)
+    → Walking s head all v (place + 1)
+moved s head all w v place m h shows is walked formed =
+    let one : suc place ≡ place + 1 = omega arith in
+    subst (Walking s head all v) one
+    (record {
+      seen = h.seen ++ m ∷ [];
+      shows = shows;
+      is_meant = h.is_meant ∙ ap (λ l. h.seen ++ l) is ∙ sym (append_assoc h.seen (m ∷ []) (meant s (from_place (suc place) all)));
+      is_walked = h.is_walked ∙ walked;
+      formed = formed;
+    })
+
+pub walking-function : (s : State) (head : Head) (all : Arguments) (w v : Walked) (place l : ℕ) (e : Tree) → Walking s head all w place
+    → from_place place all ≡ more e (from_place (suc place) all) → HasLevel s e l
+    → ((f : FlatFunction) → f.level ≡ l → Notes w v (Function f)) → Walking s head all v (place + 1)
+walking-function s head all w v place l e h is at next =
+    let later = from_place (suc place) all in
+    moved s head all w v place (Function (flat (part s e))) h (next (flat (part s e)) at.is_it h.seen h.shows) (ap (meant s) is ∙ meant-more s e later)
+    (ap (walks s) is ∙ walks-more s e later ∙ ap (λ o. option_or o (walks s later)) at.walked)
+    (subst (AreFormed head place) is h.formed).2
+
+pub walking-position : (s : State) (head : Head) (all : Arguments) (w v : Walked) (place : ℕ) (i : ℤ) (a : Atom) → Walking s head all w place
+    → from_place place all ≡ atom a (from_place (suc place) all) → HasPosition s a i
+    → Notes w v (Position i) → Walking s head all v (place + 1)
+walking-position s head all w v place i a h is at next =
+    let later = from_place (suc place) all in
+    moved s head all w v place (Position i) h (next h.seen h.shows) (ap (meant s) is ∙ meant-atom s a later ∙ ap (λ m. m ∷ meant s later) at.is_it)
+    (ap (walks s) is ∙ walks-atom s a later ∙ ap (λ o. option_or o (walks s later)) at.walked)
+    (subst (AreFormed head place) is h.formed).1
+
+pub walking-number : (s : State) (head : Head) (all : Arguments) (w v : Walked) (place : ℕ) (n : ℤ) → Walking s head all w place
+    → from_place place all ≡ atom (tree.Number n) (from_place (suc place) all)
+    → Notes w v (Number n) → Walking s head all v (place + 1)
+walking-number s head all w v place n h is next =
+    let later = from_place (suc place) all in
+    moved s head all w v place (Number n) h (next h.seen h.shows) (ap (meant s) is ∙ meant-atom s (tree.Number n) later)
+    (ap (walks s) is ∙ walks-atom s (tree.Number n) later)
+    (subst (AreFormed head place) is h.formed).1
+
+-- an argument is refused
+pub function-refused : (s : State) (head : Head) (all : Arguments) (w : Walked) (place : ℕ) (e : Tree) (r : Refusal) → Walking s head all w place
+    → from_place place all ≡ more e (from_place (suc place) all) → walk s e ≡ Some r → walk s (Call head all) ≡ Some r
+function-refused s head all w place e r h is refused =
+    let later = from_place (suc place) all in
+    walk-Call-refused s head all r (h.is_walked ∙ ap (walks s) is ∙ walks-more s e later ∙ ap (λ o. option_or o (walks s later)) refused)
+
+pub position-refused : (s : State) (head : Head) (all : Arguments) (w : Walked) (place : ℕ) (a : Atom) (r : Refusal) → Walking s head all w place
+    → from_place place all ≡ atom a (from_place (suc place) all) → walk_atom s a ≡ Some r → walk s (Call head all) ≡ Some r
+position-refused s head all w place a r h is refused =
+    let later = from_place (suc place) all in
+    walk-Call-refused s head all r (h.is_walked ∙ ap (walks s) is ∙ walks-atom s a later ∙ ap (λ o. option_or o (walks s later)) refused)
+
+-- no argument is left
+pub from-end : (es : Arguments) → from_place (count es) es ≡ none
+from-end none = refl
+from-end (more e es) = (let n : count es + 1 ≡ suc (count es) = omega arith in ap (λ k. from_place k (more e es)) n) ∙ from-end es
+from-end (atom a es) = (let n : count es + 1 ≡ suc (count es) = omega arith in ap (λ k. from_place k (atom a es)) n) ∙ from-end es
+
+pub append-none : {A : Type 0} (xs : List A) → xs ++ [] ≡ xs
+append-none [] = refl
+append-none (x ∷ xs) = ap (λ l. x ∷ l) (append-none xs)
+
+pub all-seen : (s : State) (head : Head) (all : Arguments) (w : Walked) (place : ℕ) (h : Walking s head all w place) → place ≡ count all
+    → (meant s all ≡ h.seen) × (walks s all ≡ None)
+all-seen s head all w place h end =
+    let past = ap (λ k. from_place k all) end ∙ from-end all in
+    (h.is_meant ∙ ap (λ es. h.seen ++ meant s es) past ∙ ap (λ l. h.seen ++ l) (meant-none s) ∙ append-none h.seen, h.is_walked ∙ ap (walks s) past ∙ walks-none s)
+
+pub call-level : (s : State) (head : Head) (all : Arguments) (w : Walked) (place l : ℕ) (h : Walking s head all w place) → place ≡ count all
+    → (call_refusal head h.seen ≡ None) × ((exact head h.seen).level ≡ l) → HasLevel s (Call head all) l
+call-level s head all w place l h end ruled =
+    let seen = all-seen s head all w place h end in
+    record {
+      walked = walk-Call-goes s head all seen.1 ∙ ap (call_refusal head) seen.0 ∙ ruled.0;
+      is_it = ap (λ (p : Part). p.level) (part-Call s head all) ∙ ap (λ l. (exact head l).level) seen.0 ∙ ruled.1;
+    }
+
+pub call-refused : (s : State) (head : Head) (all : Arguments) (w : Walked) (place : ℕ) (r : Refusal) (h : Walking s head all w place) → place ≡ count all
+    → call_refusal head h.seen ≡ Some r → walk s (Call head all) ≡ Some r
+call-refused s head all w place r h end ruled =
+    let seen = all-seen s head all w place h end in
+    walk-Call-goes s head all seen.1 ∙ ap (call_refusal head) seen.0 ∙ ruled
+
+seen-levelled : (s : State) (head : Head) (all : Arguments) (w : Walked) (place : ℕ) (h : Walking s head all w place) → place ≡ count all → IsFormed (Call head all) → IsLevelled head h.seen
+seen-levelled s head all w place h end formed =
+    levelled head h.seen
+    (subst (OfKinds (signature head).first (signature head).further) (all-seen s head all w place h end).0 (of-formed s head all formed.0 formed.1))
+
+-- The rules, by what was noted.
+rules-are : (head : Head) (args : List Meant) (w : Walked) (n l : ℕ) → Shows w args → n ≡ 2 ^ unwrap_or w.common 0 → n ≤ 128 → (exact head args).level ≡ l
+    → call_refusal head args ≡ option_or (unless w.equal LevelsDiffer) (option_or (unless (nat_le w.wanted n) OutOfRange) (unless (nat_le l 7) BadLevel))
+rules-are head args w n l h is few at =
+    let same : 2 ^ common (levels args) ≡ n = ap (λ k. 2 ^ k) (sym (common-first (levels args)) ∙ ap (λ (o : Option ℕ). unwrap_or o 0) (sym h.first)) ∙ sym is in
+    let inside = ap (λ k. list_all (λ i. is_below i k) (positions args)) same ∙ h.wanted n few in
+    ap (λ b. option_or (unless b LevelsDiffer) (option_or (unless (list_all (λ i. is_below i (2 ^ common (levels args))) (positions args)) OutOfRange) (unless (nat_le (exact head args).level 7) BadLevel))) (sym h.equal)
+    ∙ ap (λ b. option_or (unless w.equal LevelsDiffer) (option_or (unless b OutOfRange) (unless (nat_le (exact head args).level 7) BadLevel))) inside
+    ∙ ap (λ k. option_or (unless w.equal LevelsDiffer) (option_or (unless (nat_le w.wanted n) OutOfRange) (unless (nat_le k 7) BadLevel))) at
+
+pub level-is : (head : Head) (args : List Meant) (w : Walked) (l : ℕ) → Shows w args → IsLevelled head args → l ≡ level_by w.common w.number
+    → (exact head args).level ≡ l
+level-is head args w l h levelled is =
+    levelled ∙ ap (λ o. level_by o (first_of (numbers args))) (sym h.first) ∙ ap (level_by w.common) (sym h.number) ∙ sym is
+
+pub out-of-range : (head : Head) (args : List Meant) (w : Walked) (n l : ℕ) → Shows w args → n ≡ 2 ^ unwrap_or w.common 0 → n ≤ 128 → (exact head args).level ≡ l
+    → w.equal ≡ true → nat_le w.wanted n ≡ false → call_refusal head args ≡ Some OutOfRange
+out-of-range head args w n l h is few at e past =
+    rules-are head args w n l h is few at
+    ∙ ap (λ b. option_or (unless b LevelsDiffer) (option_or (unless (nat_le w.wanted n) OutOfRange) (unless (nat_le l 7) BadLevel))) e
+    ∙ ap (λ b. option_or (unless b OutOfRange) (unless (nat_le l 7) BadLevel)) past
+
+pub by-level : (head : Head) (args : List Meant) (w : Walked) (n l : ℕ) (b : Bool) → Shows w args → n ≡ 2 ^ unwrap_or w.common 0 → n ≤ 128 → (exact head args).level ≡ l
+    → w.equal ≡ true → nat_le w.wanted n ≡ true → nat_le l 7 ≡ b → call_refusal head args ≡ unless b BadLevel
+by-level head args w n l b h is few at e within ranged =
+    rules-are head args w n l h is few at
+    ∙ ap (λ t. option_or (unless t LevelsDiffer) (option_or (unless (nat_le w.wanted n) OutOfRange) (unless (nat_le l 7) BadLevel))) e
+    ∙ ap (λ t. option_or (unless t OutOfRange) (unless (nat_le l 7) BadLevel)) within
+    ∙ ap (λ t. unless t BadLevel) ranged
+
+-- the tests of `ruled`
+pub not-false : (b : Bool) → not b ≡ false → b ≡ true
+not-false true e = refl
+not-false false e = sym e
+
+pub few-variables : (n k : ℕ) → n ≡ 2 ^ k → k ≤ 7 → n ≤ 128
+few-variables n k e low = omega (arith, e, pow_mono {i = k} {j = 7} low)
+
+pub past-end : (wanted n : ℕ) → n < wanted → nat_le wanted n ≡ false
+past-end wanted n h = le_false wanted n h
+
+pub within-end : (wanted n : ℕ) → wanted ≤ n → nat_le wanted n ≡ true
+within-end wanted n h = le_true wanted n h
+
+pub high-level : (l : ℕ) → 7 < l → nat_le l 7 ≡ false
+high-level l h = le_false l 7 h
+
+pub low-level : (l : ℕ) → l ≤ 7 → nat_le l 7 ≡ true
+low-level l h = le_true l 7 h
+
+-- a call as a whole
+pub whole-level : (s : State) (head : Head) (t : Tree) (all : Arguments) (w : Walked) (place l : ℕ) (h : Walking s head all w place) → t ≡ Call head all → IsFormed t → place ≡ count all
+    → IsRuled w l → HasLevel s t l
+whole-level s head t all w place l h is formed end ruled =
+    subst (λ (u : Tree). HasLevel s u l) (sym is) (call-level s head all w place l h end (ruled head h.seen h.shows (seen-levelled s head all w place h end (subst IsFormed is formed))))
+
+pub whole-refused : (s : State) (head : Head) (t : Tree) (all : Arguments) (w : Walked) (place : ℕ) (r : Refusal) (h : Walking s head all w place) → t ≡ Call head all → IsFormed t → place ≡ count all
+    → IsRefused w r → walk s t ≡ Some r
+whole-refused s head t all w place r h is formed end ruled =
+    ap (walk s) is ∙ call-refused s head all w place r h end (ruled head h.seen h.shows (seen-levelled s head all w place h end (subst IsFormed is formed)))
+
+-- The arguments of a call were walked up to a place.
+pub record WalkingCall (s : State) (t : Tree) (w : Walked) (place : ℕ) : Type 0 where
+  pub head : Head
+  pub is_call : t ≡ Call head (arguments_of t)
+  pub walking : Walking s head (arguments_of t) w place
+
+pub walking-call : (s : State) (t : Tree) (w : Walked) → IsCall t → IsFormed t → Shows w [] → WalkingCall s t w 0
+walking-call s t w call formed h = record {
+  head = call.0;
+  is_call = call.1;
+  walking = walking-none s call.0 (arguments_of t) w h (subst IsFormed call.1 formed).1;
+}
+
+-- an expression among the arguments is formed
+pub walking-formed : (s : State) (head : Head) (all : Arguments) (w : Walked) (place : ℕ) (e : Tree) → Walking s head all w place
+    → from_place place all ≡ more e (from_place (suc place) all) → IsFormed e
+walking-formed s head all w place e h is = (subst (AreFormed head place) is h.formed).1

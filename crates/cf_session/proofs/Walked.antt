@@ -5,14 +5,11 @@ use Rattle.std.proofs.lemmas.Bool.{false≢true}
 use Rattle.std.proofs.lemmas.Bool.Decides.{nat_tests}
 use Rattle.std.proofs.lemmas.Option.{none-some}
 use Rattle.std.proofs.Math.Pow.{pow_mono}
-use Rattle.cf_model.specs.declared.terms.Word1.{Word1}
-use Rattle.cf_model.specs.declared.terms.Word2.{Word2}
-use Rattle.cf_reference.specs.Trees.{Tree, Trees, At, Named, Const, One, Fold, Ite}
-use Rattle.cf_reference.specs.Reasons.{Refusal, NoName, LevelsDiffer, BadLevel, OutOfRange, unless}
+use Rattle.cf_reference.specs.Trees.{At, Named}
+use Rattle.cf_reference.specs.Reasons.{Refusal, NoName, OutOfRange, unless}
 use Rattle.cf_reference.specs.States.{State, level_in, is_below, named, is_bound}
-use Rattle.cf_reference.specs.Expressions.{levels, are_equal, walk, walks}
-use Rattle.cf_reference.proofs.ExpressionLaws.{walk-At, walk-Named, walk-Const, walk-One, walk-Fold, walk-Ite}
-use Rattle.cf_reference.proofs.TestFacts.{or_none_first, or_none_second}
+use Rattle.cf_reference.specs.Expressions.{walk}
+use Rattle.cf_reference.proofs.ExpressionLaws.{walk-At, walk-Named}
 
 unless_none : (b : Bool) (r : Refusal) → unless b r ≡ None → b ≡ true
 unless_none true r e = refl
@@ -41,31 +38,9 @@ position_within s i n k e l w =
 pub within_byte : (i k : ℕ) → k ≤ 7 → i < 2 ^ k → i < 2 ^ 8
 within_byte i k low h = omega (arith, h, pow_mono {i = k} {j = 7} low)
 
-pub walked_const : (s : State) (j n : ℤ) → walk s (Const j n) ≡ None → nat_abs j < 8
-walked_const s j n w = below_is j 8 (unless_none (is_below j 8) BadLevel (sym (walk-Const s j n) ∙ w))
-
 pub walked_named : (s : State) (name : List ℕ) → walk s (Named name) ≡ None → IsNone (named s name) → ⊥
 walked_named s name w = by (named s name) (unless_none (is_bound s name) NoName (sym (walk-Named s name) ∙ w))
   where
     by : {A : Type 0} (o : Option A) → is_some o ≡ true → IsNone o → ⊥
     by None e n = false≢true e
     by (Some x) e n = false≢true (sym n)
-
-pub walked_one : (s : State) (word : Word1) (e : Tree) → walk s (One word e) ≡ None → walk s e ≡ None
-walked_one s word e w = sym (walk-One s word e) ∙ w
-
-pub walked_fold : (s : State) (word : Word2) (es : Trees) → walk s (Fold word es) ≡ None
-    → (walks s es ≡ None) × (are_equal (levels s es) ≡ true)
-walked_fold s word es w =
-    let split = sym (walk-Fold s word es) ∙ w in (
-      or_none_first (walks s es) (unless (are_equal (levels s es)) LevelsDiffer) split,
-      unless_none (are_equal (levels s es)) LevelsDiffer (or_none_second (walks s es) (unless (are_equal (levels s es)) LevelsDiffer) split),
-    )
-
-pub walked_ite : (s : State) (es : Trees) → walk s (Ite es) ≡ None
-    → (walks s es ≡ None) × (are_equal (levels s es) ≡ true)
-walked_ite s es w =
-    let split = sym (walk-Ite s es) ∙ w in (
-      or_none_first (walks s es) (unless (are_equal (levels s es)) LevelsDiffer) split,
-      unless_none (are_equal (levels s es)) LevelsDiffer (or_none_second (walks s es) (unless (are_equal (levels s es)) LevelsDiffer) split),
-    )

@@ -1,7 +1,9 @@
 pub mod Sessions
 pub mod Bindings
 pub mod Faults
+pub mod Arguments
 pub mod Walks
+pub mod Values
 pub mod Building
 pub mod Statements
 pub mod Stepping

@@ -1,22 +1,29 @@
 //! The function of an expression.
 
-ghost use Rattle.std.specs.Prelude.{◌≡◌, ◌≤◌, ◌<◌, ◌^◌, length, true, None, IfOk, IfErr, Some};
+ghost use Rattle.std.specs.Prelude.{◌≡◌, ◌≤◌, ◌<◌, ◌^◌, true, false, length, None, IfOk, IfErr};
 ghost use Rattle.cf_model.specs.FlatFunctions.{IsFlatFunction, tabulated, variable};
 ghost use Rattle.cf_ops.specs.Operations.{of_one, of_two, of_three};
 ghost use Rattle.cf_pkg.specs.Packages.{OwnsFunction, Means, Keeps, meaning};
 ghost use Rattle.cf_pkg.specs.Jobs.{AreLevel, map_value, apply_value, ternary_value, HasValues, IsLeastWithout};
 ghost use Rattle.cf_pkg.specs.Faults.{IfOverflow};
-ghost use Rattle.cf_reference.specs.Trees.{IsFormed, AreFormed, Num, At, Named, Const, One, Fold, Ite};
+ghost use Rattle.cf_reference.specs.Heads.{signature};
+ghost use Rattle.cf_reference.specs.Trees.{IsFormed, Num, At, Named, Call};
+ghost use Rattle.cf_reference.specs.Calls.{call_refusal, is_nested};
 ghost use Rattle.cf_reference.specs.Carrying.{function_from};
 ghost use Rattle.cf_reference.specs.Expressions.{walk};
 ghost use Rattle.cf_script.specs.Views.{tree_of, listed};
 ghost use Rattle.cf_session.specs.Sessions.{state_of};
+ghost use Rattle.cf_session.specs.Arguments.{arguments_of};
+ghost use Rattle.cf_session.specs.Values.{meanings, AreOwned, AreOf, Calls, IsFaultOfCall};
 ghost use Rattle.cf_session.specs.Building.{Grows, Builds, IsFault, IsFaultOf, refusal_of, IsFaultOfBuild};
 
+use crate::arguments::{Form, Given, argument, arity, form_of};
 use crate::faults::{Refusal, StepFault};
 use crate::session::Session;
+use crate::values::{Value, one_function, push, three_functions, two_functions, two_numbers};
 use cf_ops::{Word1, Word2};
 use cf_pkg::{Func, OpFault, Pkg};
+use cf_reference::grammar::Head;
 use cf_script::Expr;
 use cf_table::steps::Steps;
 use std::marker::Brand;
@@ -85,6 +92,7 @@ impl Session {
         self.pkg.law(r);
         Ok(r)
     }
+
     /// The word's operation on the values of f and g.
     fn apply(&mut self, word: Word2, f: Func, g: Func) -> Result<Func, StepFault>
         requires level { AreLevel self.old.pkg f g }
@@ -120,16 +128,6 @@ impl Session {
     {
         let level = self.level_of_variables();
         self.constant(level, n)
-    }
-
-    /// The function of a number at a level.
-    fn number_at(&mut self, level: i128, n: i128) -> Result<Func, StepFault>
-        requires walked { walk (state_of self.old) (Const level n) ≡ None }
-        ensures built { IfOk result (λ f. Builds (state_of self.old) (Const level n) self.new.pkg f) }
-        ensures fault { IfErr result (IsFaultOf (state_of self.old) (Const level n)) }
-        ensures grows { Grows self.old self.new }
-    {
-        self.constant(level.unsigned_abs() as u8, n)
     }
 
     /// The function of the bit at a position.
@@ -169,39 +167,54 @@ impl Session {
         ensures fault { IfErr result (IsFaultOf (state_of self.old) (tree_of expr.now)) }
         ensures grows { Grows self.old self.new }
     {
-        match expr {
-            Expr::Num(n) => self.number(*n),
-            Expr::At(position) => self.bit(*position),
-            Expr::Named(name) => self.named(name),
-            Expr::Const(level, n) => self.number_at(*level, *n),
-            Expr::One(word, e) => self.evaluate_one(*word, e),
-            Expr::Fold(word, es) => self.evaluate_fold(*word, es.items()),
-            Expr::Ite(es) => self.evaluate_choice(es.items()),
+        match form_of(expr) {
+            Form::Num(n) => self.number(n),
+            Form::At(position) => self.bit(position),
+            Form::Named(name) => self.named(name),
+            Form::Nested(head, es) => self.evaluate_nested(head, es),
+            Form::Call(head) => self.evaluate_call(head, expr),
         }
     }
 
-    /// The function of an operation on one expression.
+    /// The function of a call that isn't nested calls: its arguments from left to right, and then
+    /// the call.
     #[cycle(evaluate)]
-    fn evaluate_one(&mut self, word: Word1, e: &Expr<'_>) -> Result<Func, StepFault>
-        requires formed { IsFormed (tree_of e.now) }
-        requires walked { walk (state_of self.old) (One word (tree_of e.now)) ≡ None }
-        ensures built { IfOk result (λ f. Builds (state_of self.old) (One word (tree_of e.now)) self.new.pkg f) }
-        ensures fault { IfErr result (IsFaultOf (state_of self.old) (One word (tree_of e.now))) }
+    fn evaluate_call(&mut self, head: Head, expr: &Expr<'_>) -> Result<Func, StepFault>
+        requires is_call { tree_of expr.now ≡ Call head (arguments_of (tree_of expr.now)) }
+        requires one { is_nested head ≡ false }
+        requires formed { IsFormed (tree_of expr.now) }
+        requires walked { walk (state_of self.old) (tree_of expr.now) ≡ None }
+        ensures built { IfOk result (λ f. Builds (state_of self.old) (tree_of expr.now) self.new.pkg f) }
+        ensures fault { IfErr result (IsFaultOf (state_of self.old) (tree_of expr.now)) }
         ensures grows { Grows self.old self.new }
     {
-        match self.evaluate(e) {
-            Ok(f) => self.map(word, f),
-            Err(fault) => Err(fault),
+        let mut args = Vec::new(self.alloc);
+        for place in 0..arity(expr) {
+            let value = match argument(expr, place) {
+                Given::Expr(e) => match self.evaluate(e) {
+                    Ok(f) => Value::Function(f),
+                    Err(fault) => return Err(fault),
+                },
+                Given::Var(var) => match self.position(var) {
+                    Ok(i) => Value::Position(i),
+                    Err(refusal) => return Err(StepFault::Refused(refusal)),
+                },
+                Given::Number(n) => Value::Number(n),
+            };
+            push(&mut args, value)?;
         }
+        self.call(head, &args)
     }
 
-    /// The function of an operation that is folded over expressions.
+    /// The function of nested calls: the first two arguments' call, and then its call with each of
+    /// the others.
     #[cycle(evaluate)]
-    fn evaluate_fold(&mut self, word: Word2, es: &[Expr<'_>]) -> Result<Func, StepFault>
-        requires formed { IsFormed (Fold word (listed es.now)) }
-        requires walked { walk (state_of self.old) (Fold word (listed es.now)) ≡ None }
-        ensures built { IfOk result (λ f. Builds (state_of self.old) (Fold word (listed es.now)) self.new.pkg f) }
-        ensures fault { IfErr result (IsFaultOf (state_of self.old) (Fold word (listed es.now))) }
+    fn evaluate_nested(&mut self, head: Head, es: &[Expr<'_>]) -> Result<Func, StepFault>
+        requires nested { is_nested head ≡ true }
+        requires formed { IsFormed (Call head (listed es.now)) }
+        requires walked { walk (state_of self.old) (Call head (listed es.now)) ≡ None }
+        ensures built { IfOk result (λ f. Builds (state_of self.old) (Call head (listed es.now)) self.new.pkg f) }
+        ensures fault { IfErr result (IsFaultOf (state_of self.old) (Call head (listed es.now))) }
         ensures grows { Grows self.old self.new }
     {
         let mut f = match self.evaluate(&es[0]) {
@@ -213,7 +226,7 @@ impl Session {
                 Ok(g) => g,
                 Err(fault) => return Err(fault),
             };
-            f = match self.apply(word, f, g) {
+            f = match self.call(head, &[Value::Function(f), Value::Function(g)]) {
                 Ok(f) => f,
                 Err(fault) => return Err(fault),
             };
@@ -221,28 +234,35 @@ impl Session {
         Ok(f)
     }
 
-    /// The function of a choice between two expressions by the first of three.
-    #[cycle(evaluate)]
-    fn evaluate_choice(&mut self, es: &[Expr<'_>]) -> Result<Func, StepFault>
-        requires formed { IsFormed (Ite (listed es.now)) }
-        requires walked { walk (state_of self.old) (Ite (listed es.now)) ≡ None }
-        ensures built { IfOk result (λ f. Builds (state_of self.old) (Ite (listed es.now)) self.new.pkg f) }
-        ensures fault { IfErr result (IsFaultOf (state_of self.old) (Ite (listed es.now))) }
+    /// A call of functions, positions and numbers that are in order, of two functions where calls
+    /// nest: the one place where a head is given its operation.
+    fn call(&mut self, head: Head, args: &[Value]) -> Result<Func, StepFault>
+        requires owned { AreOwned self.old.pkg args.now }
+        requires kinds { AreOf (signature head).first (signature head).further args.now }
+        requires pair { is_nested head ≡ true → length args.now ≡ 2 }
+        requires ruled { call_refusal head (meanings self.old.pkg args.now) ≡ None }
+        ensures calls { IfOk result (Calls head (meanings self.old.pkg args.now) self.new.pkg) }
+        ensures fault { IfErr result (IsFaultOfCall head (meanings self.old.pkg args.now)) }
         ensures grows { Grows self.old self.new }
     {
-        let f = match self.evaluate(&es[0]) {
-            Ok(f) => f,
-            Err(fault) => return Err(fault),
-        };
-        let g = match self.evaluate(&es[1]) {
-            Ok(g) => g,
-            Err(fault) => return Err(fault),
-        };
-        let h = match self.evaluate(&es[2]) {
-            Ok(h) => h,
-            Err(fault) => return Err(fault),
-        };
-        self.choose(f, g, h)
+        match head {
+            Head::Const => {
+                let (level, n) = two_numbers(args);
+                self.constant(level.unsigned_abs() as u8, n)
+            }
+            Head::One(word) => {
+                let f = one_function(args);
+                self.map(word, f)
+            }
+            Head::Fold(word) => {
+                let (f, g) = two_functions(args);
+                self.apply(word, f, g)
+            }
+            Head::Ite => {
+                let (f, g, h) = three_functions(args);
+                self.choose(f, g, h)
+            }
+        }
     }
 }
 

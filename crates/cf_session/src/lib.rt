@@ -2,12 +2,14 @@
 #![tactic(auto)]
 
 mod answers;
+mod arguments;
 mod bindings;
 mod build;
 pub mod faults;
 mod session;
 mod statements;
 mod step;
+mod values;
 mod walk;
 
 pub use faults::{Refusal, StepFault};

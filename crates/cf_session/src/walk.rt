@@ -1,18 +1,120 @@
 //! The level of an expression, and its first refusal.
 
-ghost use Rattle.std.specs.Prelude.{◌≡◌, ◌≤◌, ◌^◌, ℤ, Some, IfOk, IfErr};
-ghost use Rattle.cf_reference.specs.States.{State, level_in, is_below};
-ghost use Rattle.cf_reference.specs.Trees.{At, Named, Const};
-ghost use Rattle.cf_reference.specs.Expressions.{walk};
-ghost use Rattle.cf_script.specs.Views.{tree_of, listed};
+ghost use Rattle.std.specs.Prelude.{◌≡◌, ◌≤◌, [], Some, IfOk, IfErr, unwrap_or};
+ghost use Rattle.cf_model.specs.FlatFunctions.{FlatFunction};
+ghost use Rattle.cf_reference.specs.Calls.{Function, Position, Number};
+ghost use Rattle.cf_reference.specs.States.{level_in, is_below};
+ghost use Rattle.cf_reference.specs.Trees.{At, Named, IsFormed};
+ghost use Rattle.cf_reference.specs.Expressions.{walk, walk_atom};
+ghost use Rattle.cf_script.specs.Vars.{atom_of};
+ghost use Rattle.cf_script.specs.Views.{tree_of};
+ghost use Rattle.cf_session.specs.Arguments.{IsCall};
 ghost use Rattle.cf_session.specs.Sessions.{state_of};
 ghost use Rattle.cf_session.specs.Faults.{reason_of};
-ghost use Rattle.cf_session.specs.Walks.{HasLevel, HaveLevel, walk_call, agrees};
+ghost use Rattle.cf_session.specs.Walks.{HasLevel, HasPosition, Shows, Notes, IsRuled, IsRefused, level_by, agrees, variables_for};
 
+use crate::arguments::{Form, Given, argument, arity, form_of};
 use crate::faults::Refusal;
 use crate::session::Session;
 use cf_pkg::variables;
-use cf_script::Expr;
+use cf_script::{Expr, Var};
+
+/// What the arguments of a call tell of it, read from the left.
+#[derive(Clone, Copy, Drop)]
+pub(crate) struct Walked {
+    /// The level of the first function.
+    common: Option<u8>,
+    /// Whether the others are of that level.
+    equal: bool,
+    /// How many variables there must be for the positions; 255 stands for more than any level has.
+    wanted: u8,
+    /// The first number.
+    number: Option<i128>,
+}
+
+impl Walked {
+    /// No argument.
+    fn none() -> Walked
+        ensures { Shows result [] }
+    {
+        Walked {
+            common: None,
+            equal: true,
+            wanted: 0,
+            number: None,
+        }
+    }
+
+    /// A function of a level comes behind them.
+    fn function(self, level: u8) -> Walked
+        requires low { level ≤ 7 }
+        ensures { (f : FlatFunction) → f.level ≡ level → Notes self result (Function f) }
+    {
+        Walked {
+            common: self.common.or(Some(level)),
+            equal: self.equal && agrees(self.common, level),
+            ..self
+        }
+    }
+
+    /// A position comes behind them.
+    fn position(self, i: i128) -> Walked
+        ensures { Notes self result (Position i) }
+    {
+        let wanted = variables_for(i);
+        Walked {
+            wanted: if wanted > self.wanted {
+                wanted
+            } else {
+                self.wanted
+            },
+            ..self
+        }
+    }
+
+    /// A number comes behind them.
+    fn number(self, n: i128) -> Walked
+        ensures { Notes self result (Number n) }
+    {
+        Walked {
+            number: self.number.or(Some(n)),
+            ..self
+        }
+    }
+
+    /// The level of the call: that of the first function, or else the first number.
+    fn call_level(self) -> u128
+        ensures { result ≡ level_by self.common self.number }
+    {
+        match self.common {
+            Some(level) => u128::from(level),
+            None => match self.number {
+                Some(n) => n.unsigned_abs(),
+                None => 0,
+            },
+        }
+    }
+
+    /// The level of the call, or the first rule that it breaks.
+    fn ruled(self) -> Result<u8, Refusal>
+        requires low { unwrap_or self.common 0 ≤ 7 }
+        ensures level { IfOk result (IsRuled self) }
+        ensures low { IfOk result (λ l. l ≤ 7) }
+        ensures refused { IfErr result (λ r. IsRefused self (reason_of r)) }
+    {
+        let common = self.common.unwrap_or(0);
+        let level = self.call_level();
+        if !self.equal {
+            Err(Refusal::LevelsDiffer)
+        } else if variables(common) < self.wanted {
+            Err(Refusal::OutOfRange)
+        } else if 7 < level {
+            Err(Refusal::BadLevel)
+        } else {
+            Ok(level as u8)
+        }
+    }
+}
 
 impl Session {
     /// The level of the variables, 0 where none is set.
@@ -26,23 +128,24 @@ impl Session {
     /// The level of an expression, or its first refusal in reading order. It takes no memory.
     #[cycle(walk)]
     pub(crate) fn walk(&self, expr: &Expr) -> Result<u8, Refusal>
+        requires formed { IsFormed (tree_of expr.now) }
         ensures level { IfOk result (HasLevel (state_of self.now) (tree_of expr.now)) }
+        ensures low { IfOk result (λ l. l ≤ 7) }
         ensures refused { IfErr result (λ r. walk (state_of self.now) (tree_of expr.now) ≡ Some (reason_of r)) }
     {
-        match expr {
-            Expr::Num(_) => Ok(self.level_of_variables()),
-            Expr::At(i) => self.walk_at(*i),
-            Expr::Named(name) => self.walk_named(name),
-            Expr::Const(level, _) => walk_const(*level),
-            Expr::One(_, e) => self.walk(e),
-            Expr::Fold(_, es) => self.walk_all(es.items()),
-            Expr::Ite(es) => self.walk_all(es.items()),
+        match form_of(expr) {
+            Form::Num(_) => Ok(self.level_of_variables()),
+            Form::At(i) => self.walk_at(i),
+            Form::Named(name) => self.walk_named(name),
+            Form::Nested(..) => self.walk_call(expr),
+            Form::Call(_) => self.walk_call(expr),
         }
     }
 
     /// The level of the bit at a position.
     fn walk_at(&self, i: i128) -> Result<u8, Refusal>
         ensures level { IfOk result (HasLevel (state_of self.now) (At i)) }
+        ensures low { IfOk result (λ l. l ≤ 7) }
         ensures refused { IfErr result (λ r. walk (state_of self.now) (At i) ≡ Some (reason_of r)) }
     {
         let level = self.level_of_variables();
@@ -56,44 +159,56 @@ impl Session {
     /// The level of a name's function.
     fn walk_named(&self, name: &[u8]) -> Result<u8, Refusal>
         ensures level { IfOk result (HasLevel (state_of self.now) (Named name.now)) }
+        ensures low { IfOk result (λ l. l ≤ 7) }
         ensures refused { IfErr result (λ r. walk (state_of self.now) (Named name.now) ≡ Some (reason_of r)) }
     {
         match self.func_of(name) {
-            Some(f) => Ok(self.pkg.level_of(f)),
+            Some(f) => {
+                self.pkg.law(f);
+                Ok(self.pkg.level_of(f))
+            }
             None => Err(Refusal::NoName),
         }
     }
 
-    /// The common level of the arguments of a call.
-    #[cycle(walk)]
-    fn walk_all(&self, exprs: &[Expr]) -> Result<u8, Refusal>
-        ensures level { IfOk result (HaveLevel (state_of self.now) (listed exprs.now)) }
-        ensures refused { IfErr result (λ r. walk_call (state_of self.now) (listed exprs.now) ≡ Some (reason_of r)) }
+    /// The position of a variable.
+    pub(crate) fn position(&self, var: Var) -> Result<i128, Refusal>
+        ensures position { IfOk result (HasPosition (state_of self.now) (atom_of var.entry)) }
+        ensures refused { IfErr result (λ r. walk_atom (state_of self.now) (atom_of var.entry) ≡ Some (reason_of r)) }
     {
-        let mut common = None;
-        let mut equal = true;
-        for expr in exprs {
-            let level = self.walk(expr)?;
-            equal &= agrees(common, level);
-            common = common.or(Some(level));
-        }
-        if equal {
-            Ok(common.unwrap_or(0))
-        } else {
-            Err(Refusal::LevelsDiffer)
+        match var {
+            Var::At(i) => Ok(i),
+            Var::Named(name) => match self.variables.place(name) {
+                Some(place) => Ok(place as i128),
+                None => Err(Refusal::NoName),
+            },
         }
     }
-}
 
-/// The level that a constant names.
-fn walk_const(level: i128) -> Result<u8, Refusal>
-    ensures level { IfOk result (λ l. (s : State) (n : ℤ) → HasLevel s (Const level n) l) }
-    ensures refused { IfErr result (λ r. (s : State) (n : ℤ) → walk s (Const level n) ≡ Some (reason_of r)) }
-{
-    if is_below(level, 8) {
-        Ok(level as u8)
-    } else {
-        Err(Refusal::BadLevel)
+    /// The level of a call: its arguments from left to right, and then its rules.
+    #[cycle(walk)]
+    fn walk_call(&self, call: &Expr) -> Result<u8, Refusal>
+        requires is_call { IsCall (tree_of call.now) }
+        requires formed { IsFormed (tree_of call.now) }
+        ensures level { IfOk result (HasLevel (state_of self.now) (tree_of call.now)) }
+        ensures low { IfOk result (λ l. l ≤ 7) }
+        ensures refused { IfErr result (λ r. walk (state_of self.now) (tree_of call.now) ≡ Some (reason_of r)) }
+    {
+        let mut walked = Walked::none();
+        for place in 0..arity(call) {
+            walked = match argument(call, place) {
+                Given::Expr(e) => match self.walk(e) {
+                    Ok(level) => walked.function(level),
+                    Err(refusal) => return Err(refusal),
+                },
+                Given::Var(var) => match self.position(var) {
+                    Ok(i) => walked.position(i),
+                    Err(refusal) => return Err(refusal),
+                },
+                Given::Number(n) => walked.number(n),
+            };
+        }
+        walked.ruled()
     }
 }
 
@@ -102,6 +217,13 @@ pub(crate) fn is_below(i: i128, n: u8) -> bool
     ensures { result ≡ is_below i n }
 {
     0 <= i && i < i128::from(n)
+}
+
+/// How many variables there must be for a position; 255 where no level has so many.
+fn variables_for(i: i128) -> u8
+    ensures { result ≡ variables_for i }
+{
+    if is_below(i, 128) { i as u8 + 1 } else { 255 }
 }
 
 /// Whether a level is the first one's, or there is no first one.

@@ -6,6 +6,8 @@ pub mod ConnectionTests
 pub mod Above
 pub mod Internable
 pub mod First
+pub mod Entries
 pub mod Products
+pub mod Triples
 pub mod Reductions
 mod Placed

@@ -38,9 +38,13 @@ node_of t g = node t.levels g.level g.at
 abbrev pub pattern_of : Groupings → Gid → List ℕ
 pattern_of t g = pattern t.levels g.level g.at
 
--- the patterns of two groupings, with their levels
+-- the pattern of a grouping, with its level
+abbrev pub grouping_pattern : Levels → Gid → Pattern
+grouping_pattern t g = record { level = g.level; ranks = pattern t g.level g.at }
+
+-- the patterns of two groupings
 abbrev pub patterns_of : Levels → Gid → Gid → Pattern × Pattern
-patterns_of t g h = (record { level = g.level; ranks = pattern t g.level g.at }, record { level = h.level; ranks = pattern t h.level h.at })
+patterns_of t g h = (grouping_pattern t g, grouping_pattern t h)
 
 -- The two groupings are in the table, at one level, and so is the head, whose pattern and the pairs are the canon of
 -- the pairs of their exits.

@@ -7,9 +7,12 @@ use Rattle.cf_table.specs.declared.level.PackedNode.{PackedNode}
 use Rattle.cf_model.specs.Patterns.{Pattern}
 use Rattle.cf_table.specs.declared.Operands.{Operands}
 use Rattle.cf_table.specs.declared.Product.{Product}
+use Rattle.cf_table.specs.declared.ThreeOperands.{ThreeOperands}
+use Rattle.cf_table.specs.declared.TripleProduct.{TripleProduct}
 use Rattle.cf_table.specs.declared.Gid.{Gid}
 use Rattle.cf_table.specs.declared.Classed.{Classed}
 use Rattle.cf_table.specs.Groupings.{Groupings, IsProduct, IsReduction, patterns_of}
+use Rattle.cf_table.specs.Triples.{IsTriple}
 
 -- A grouping as it is kept: the place of its A-callee, its B-connections by their places, and the number of its exits.
 pub record Kept : Type 0 where
@@ -83,12 +86,21 @@ pub record HoldsProducts (t : Levels) (entries : List (Operands × Product)) : T
   pub are : (i : ℕ) (e : Operands × Product) → slice_get entries i ≡ Some e → IsProduct t e.0.left e.0.right e.1.head e.1.pairs.items
   pub differ : AllDiffer (shown_products t entries)
 
--- Each reduction that a table keeps is one.
-abbrev pub HoldsReductions : Levels → List (Classed × Gid) → Type 0
-HoldsReductions t entries = (i : ℕ) (e : Classed × Gid) → slice_get entries i ≡ Some e → IsReduction t e.0.grouping e.0.classes.items e.1
+-- Each entry of a memo has a property.
+abbrev pub Each : {A : Type 0} → (A → Type 0) → List A → Type 0
+Each {A} P entries = (i : ℕ) (e : A) → slice_get entries i ≡ Some e → P e
+
+-- The entry is the product of its three groupings.
+abbrev pub KeepsTriple : Levels → ThreeOperands × TripleProduct → Type 0
+KeepsTriple t e = IsTriple t e.0.first e.0.second e.0.third e.1.head e.1.triples.items
+
+-- The entry is the reduction of its grouping by its classes.
+abbrev pub KeepsReduction : Levels → Classed × Gid → Type 0
+KeepsReduction t e = IsReduction t e.0.grouping e.0.classes.items e.1
 
 -- The whole of what a table keeps.
-pub record HoldsAll (levels : List (List Kept)) (tuples : List (List ℕ)) (entries : List (Operands × Product)) (classed : List (Classed × Gid)) : Type 0 where
+pub record HoldsAll (levels : List (List Kept)) (tuples : List (List ℕ)) (entries : List (Operands × Product)) (threes : List (ThreeOperands × TripleProduct)) (classed : List (Classed × Gid)) : Type 0 where
   pub groupings : Holds levels tuples
   pub products : HoldsProducts (shown_levels levels tuples) entries
-  pub reductions : HoldsReductions (shown_levels levels tuples) classed
+  pub triples : Each (KeepsTriple (shown_levels levels tuples)) threes
+  pub reductions : Each (KeepsReduction (shown_levels levels tuples)) classed

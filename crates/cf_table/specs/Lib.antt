@@ -1,3 +1,4 @@
 pub mod Groupings
+pub mod Triples
 pub mod Kept
 pub mod Goodness

@@ -1,6 +1,9 @@
 //! The groupings of a level above level 0, each kept once and found by its hash.
 
-ghost use Rattle.std.specs.Prelude.{◌≡◌, ◌<◌, [], ◌∷◌, ◌++◌, length, map, slice_get, Some, IfOk, OnOk, OnErr, MatchOption};
+ghost use Rattle.std.specs.Prelude.{◌≡◌, ◌<◌, ◌+◌, ◌*◌, ◌^◌, [], ◌∷◌, ◌++◌, length, map, slice_get, Some, IfOk, OnOk, OnErr, MatchOption};
+ghost use Rattle.std.proofs.Common.{rules};
+ghost use Rattle.std.specs.Hash as fed;
+ghost use Rattle.std.specs.Cmp.Rules.{hashing};
 ghost use Rattle.cf_model.specs.Renumbering.{IsNew};
 ghost use Rattle.cf_table.specs.Kept.{ids, ids_of, kept_of, packed};
 
@@ -9,14 +12,26 @@ use cf_tuple::NoMemory;
 use indexmap::IndexMap;
 use smallvec::SmallVec;
 use std::alloc::{AllocError, Global};
+use std::hash::{Hash, Hasher};
 use std::marker::Model;
 
 /// A B-connection as it is kept: the places of its callee and of its return tuple. Its level is one below its
 /// grouping's.
-#[derive(Clone, Copy, Debug, Default, PartialEq, Eq, Hash)]
+#[derive(Clone, Copy, Debug, Default, PartialEq, Eq)]
 pub(crate) struct PackedConnection {
     pub callee: u32,
     pub returns: u32,
+}
+
+impl Hash for PackedConnection {
+    ghost hash_input = { λ p. fed.u64 (p.callee * 2 ^ 32 + p.returns) };
+
+    ghost respects_eq = { Prim.search (hashing, rules) };
+
+    /// The two numbers go in as one.
+    fn hash<H: Hasher>(&self, state: &mut H) {
+        state.write_u64(self.callee as u64 * (1 << 32) + self.returns as u64);
+    }
 }
 
 /// What a grouping is found by: the place of its A-callee, and its B-connections, up to four of them with no

@@ -6,7 +6,7 @@ pub mod laws;
 mod level;
 pub mod steps;
 
-ghost use Rattle.std.specs.Prelude.{◌≡◌, ◌<◌, ◌≤◌, ◌+◌, ◌↔◌, [], ◌∷◌, ◌++◌, All, length, map, slice_get, slice_index_or, Some, IsTrue, IfOk, IfSome, OnOk, OnErr, MatchOption};
+ghost use Rattle.std.specs.Prelude.{◌≡◌, ◌<◌, ◌≤◌, ◌+◌, ◌↔◌, ◌⊎◌, [], ◌∷◌, ◌++◌, All, length, map, slice_get, slice_index_or, Some, IsTrue, IfOk, IfSome, OnOk, OnErr, MatchOption};
 ghost use Rattle.cf_model.specs.Renumbering.{AllDiffer, IsNew};
 ghost use Rattle.cf_model.specs.Diagrams.{connection_at, count, node, IsGood, Extends};
 ghost use Rattle.cf_tuple.specs.Books.{IsInterned as IsInternedTuple, Lengthens};
@@ -30,6 +30,7 @@ ghost use Rattle.cf_table.specs.Groupings.{
   KeepsPatterns,
   IsFirstOf,
 };
+ghost use Rattle.cf_table.specs.Triples.{IsTriple};
 ghost use Rattle.cf_table.specs.Kept.{ids, ids_of, kept_of, packed, shown_node, shown_levels, IsKept, IsAdded, Holds};
 
 use cf_tuple::{NoMemory, Tid, TupleBook};
@@ -77,6 +78,22 @@ pub struct Product {
     pub pairs: Vec<(u64, u64)>,
 }
 
+/// The groupings of a triple product.
+#[derive(Clone, Copy, Debug, PartialEq, Eq, Hash)]
+struct ThreeOperands {
+    first: Gid,
+    second: Gid,
+    third: Gid,
+}
+
+/// A triple product as it is kept: its grouping, and the different triples of exits in order of first
+/// appearance.
+#[derive(Drop)]
+pub struct TripleProduct {
+    pub head: Gid,
+    pub triples: Vec<(u64, u64, u64)>,
+}
+
 /// A grouping and a class for each of its exits.
 #[derive(Debug, PartialEq, Eq, Hash, Drop)]
 struct Classed {
@@ -84,13 +101,14 @@ struct Classed {
     classes: SmallVec<u64, 8>,
 }
 
-/// The groupings of eight levels, their return tuples, and memos of pair products and reductions. It is always
-/// good, and but for the memo it only grows.
+/// The groupings of eight levels, their return tuples, and memos of products and reductions. It is
+/// always good, and but for the memos it only grows.
 #[derive(Drop)]
 pub struct Table {
     levels: [Level; 7],
     book: TupleBook,
     products: IndexMap<Operands, Product>,
+    triples: IndexMap<ThreeOperands, TripleProduct>,
     reductions: IndexMap<Classed, Gid>,
 }
 
@@ -102,7 +120,8 @@ impl Model for Table {
 
     ghost view = { λ table. shown table.levels table.book table.products.entries };
 
-    ghost invariant = { λ table. HoldsAll table.levels table.book table.products.entries table.reductions.entries };
+    ghost invariant = { λ table. HoldsAll table.levels table.book
+        table.products.entries table.triples.entries table.reductions.entries };
 }
 
 fn add(levels: &mut [Level], at: usize, node: PackedNode, exits: u64) -> Result<(), NoMemory>
@@ -140,6 +159,7 @@ impl Table {
             levels: no_groupings(alloc),
             book: TupleBook::new(alloc),
             products: IndexMap::new(alloc),
+            triples: IndexMap::new(alloc),
             reductions: IndexMap::new(alloc),
         })
     }
@@ -245,22 +265,53 @@ impl Table {
     /// Keeps a product of two groupings that the memo hasn't.
     pub fn keep_product(
         &mut self,
-        alloc: Global,
         g: Gid,
         h: Gid,
         head: Gid,
-        pairs: &[(u64, u64)],
+        pairs: Vec<(u64, u64)>,
     ) -> Result<(), NoMemory>
-        requires product { IsProduct self.old.levels g h head pairs.now }
+        requires product { IsProduct self.old.levels g h head pairs.items }
         requires new { IsNew self.old.products (patterns_of self.old.levels g h) }
         ensures kept { OnOk result (self.new.products ≡ self.old.products ++ patterns_of self.old.levels g h ∷ []) }
         ensures levels { self.new.levels ≡ self.old.levels }
         ensures tuples { self.new.tuples ≡ self.old.tuples }
         ensures no_memory { OnErr result (self.new ≡ self.old) }
     {
-        let pairs = Vec::from_slice(alloc, pairs)?;
         self.products
             .insert(Operands { left: g, right: h }, Product { head, pairs })?;
+        Ok(())
+    }
+
+    /// The product of three groupings of one level, if the memo has it.
+    pub fn triple_of(&self, f: Gid, g: Gid, h: Gid) -> Option<&TripleProduct>
+        ensures { IfSome result (λ r. IsTriple self.now.levels f g h r.now.head r.now.triples.items) }
+    {
+        self.triples.get(&ThreeOperands {
+            first: f,
+            second: g,
+            third: h,
+        })
+    }
+
+    /// Keeps a product of three groupings.
+    pub fn keep_triple(
+        &mut self,
+        f: Gid,
+        g: Gid,
+        h: Gid,
+        head: Gid,
+        triples: Vec<(u64, u64, u64)>,
+    ) -> Result<(), NoMemory>
+        requires { IsTriple self.old.levels f g h head triples.items }
+        ensures { self.new ≡ self.old }
+    {
+        let operands = ThreeOperands {
+            first: f,
+            second: g,
+            third: h,
+        };
+        self.triples
+            .insert(operands, TripleProduct { head, triples })?;
         Ok(())
     }
 
@@ -308,7 +359,34 @@ impl Table {
         ensures tuples { self.new.tuples ≡ self.old.tuples }
     {
         self.products.clear();
+        self.triples.clear();
         self.reductions.clear();
+    }
+
+    /// How many products and reductions are kept.
+    fn kept_answers(&self) -> usize {
+        let products = self.products.len().saturating_add(self.triples.len());
+        products.saturating_add(self.reductions.len())
+    }
+
+    /// How many groupings there are at all levels.
+    fn groupings(&self) -> usize {
+        let mut groupings: usize = 2;
+        for level in &self.levels {
+            groupings = groupings.saturating_add(level.len());
+        }
+        groupings
+    }
+
+    /// Forgets all products and reductions where they are more than so many times the groupings.
+    pub fn forget_beyond(&mut self, multiple: usize)
+        ensures products { (self.new.products ≡ self.old.products) ⊎ (self.new.products ≡ []) }
+        ensures levels { self.new.levels ≡ self.old.levels }
+        ensures tuples { self.new.tuples ≡ self.old.tuples }
+    {
+        if self.kept_answers() > multiple.saturating_mul(self.groupings()) {
+            self.forget();
+        }
     }
 
     /// Whether the table has the grouping.

@@ -16,4 +16,4 @@ abbrev pub decreases-thin_rows : goal.decreases-thin_rows
 decreases-thin_rows l = 4 * l.level + 2
 
 abbrev pub invariant-thin_rows-loop-i : goal.invariant-thin_rows-loop-i
-invariant-thin_rows-loop-i l = HasThinned l.fn.table l.table l.level (map row_connection l.rows) l.i l.conns.items
+invariant-thin_rows-loop-i l = HasThinned l.fn.table l.table l.level (map (row_connection l.labels) l.rows) l.i l.conns.items

@@ -1,7 +1,7 @@
-use Rattle.std.proofs.Common.{◌≡◌, take, map, length}
-use Rattle.std.specs.List.{flat_map}
-use Rattle.cf_build.specs.Joining.{frame}
+use Rattle.std.proofs.Common.{take}
+use Rattle.cf_build.specs.Numbering.{IsReady}
+use Rattle.cf_build.specs.Joining.{AreNumbered}
 use Rattle.cf_build.proofs.rows.numbered_rows.Given as goal
 
-abbrev pub invariant-loop-i : goal.invariant-loop-i
-invariant-loop-i g l = (l.start ≡ length (flat_map (λ r. r.1.items) (take l.i l.rows))) × (flat_map (λ r. r.1.items) l.numbered.items ≡ take l.start l.ranks) × (map frame l.numbered.items ≡ map frame (take l.i l.rows))
+abbrev pub invariant-loop-row : goal.invariant-loop-row
+invariant-loop-row g l = IsReady g.T.Label.is_label g.T.Label.key_of l.numbering.different.items l.numbering.keys.keys × AreNumbered (take l.row-index l.given) l.rows.items l.numbering.ranks.items l.numbering.different.items

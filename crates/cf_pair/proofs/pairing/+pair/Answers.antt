@@ -1,66 +1,29 @@
-use Rattle.std.proofs.Common.{rules, true, false, ◌∷◌, ◌++◌, suc, refl, ◌≡◌, ℕ, ◌<◌, ◌≤◌, ◌+◌, ◌*◌, ◌-◌, List, [], length, map, sym, ap, ◌∙◌, subst, arith, get_or}
+use Rattle.std.proofs.Common.{rules, true, false, suc, refl, ◌≡◌, ℕ, ◌<◌, ◌≤◌, ◌+◌, ◌*◌, ◌-◌, List, length, sym, ap, ◌∙◌, subst, arith, get_or}
 use Rattle.std.specs.List.{zip, All}
 use Rattle.std.specs.Result.{is_ok}
 use Rattle.cf_model.specs.Patterns.{Pattern}
-use Rattle.cf_model.specs.Renumbering.{IsCanon, IsNew}
+use Rattle.cf_model.specs.Renumbering.{IsCanon}
 use Rattle.cf_model.specs.Diagrams.{Levels, connection_at, count, node, row, pattern}
 use Rattle.cf_model.specs.Patterns.{sub}
 use Rattle.cf_model.proofs.Canonicity.{level_holds}
-use Rattle.cf_model.proofs.Growing.{exits_kept, pattern_kept}
-use Rattle.cf_tuple.proofs.BookLaws.{kept_at}
+use Rattle.cf_model.proofs.Growing.{exits_kept}
 use Rattle.cf_table.specs.Groupings.{connection_of, patterns_of}
 use Rattle.cf_table.specs.Goodness.{IsGoodOver}
 use Rattle.cf_build.specs.Assembling.{IsRow, HasCanon, AddsOnly}
 use Rattle.cf_build.proofs.Turns.{if_ok2}
-use Rattle.cf_pair.specs.Products.{returned2, pair_word, Lists, ListEach, AddsOnlyIn}
+use Rattle.cf_pair.specs.Products.{pair_word, Lists, ListEach, AddsOnlyIn}
 use Rattle.cf_pair.specs.Charges.{IsCharged, pair_work}
-use Rattle.cf_pair.proofs.Bounds.{charged_none, charged_then, charged_weaker, charged_self, still_new, pair_kept, middles_fit, callee_charged, two_paid, rows_charged, row_parts, sub_self, failed}
+use Rattle.cf_pair.proofs.Bounds.{charged_none, charged_then, charged_weaker, middles_fit, callee_charged, two_paid, rows_charged, row_parts, failed}
 use Rattle.cf_pair.proofs.Zips.{Both}
 use Rattle.cf_pair.proofs.Rows.{listed_more}
-use Rattle.cf_pair.proofs.Pairs.{read_good, read_row, pairs_in, pair_lists, middles_canon, middles_in, level_with, PairCall, assembly}
+use Rattle.cf_pair.proofs.Pairs.{read_good, read_row, middles_canon, middles_in, level_with, PairCall, assembly}
+use Rattle.cf_table.specs.declared.Gid.{Gid}
+use Rattle.cf_table.specs.Groupings.{IsProduct}
+use Rattle.cf_table.proofs.Told.{none_of}
+use Rattle.cf_pair.specs.Charges.{IsUnknown}
+use Rattle.cf_pair.specs.Products.{connection_row}
+use Rattle.cf_pair.proofs.Keeping.{good_over_kept, row_kept, canon_kept, is_product, still_unknown, charged_failed, charged_kept}
 use Rattle.cf_pair.proofs.pairing.+pair.Goals as goal
-
-pub pair_row-returned_pairs-requires : goal.pair_row-returned_pairs-requires
-pair_row-returned_pairs-requires g t c =
-    let old = c.args.table.now in
-    let new = c.pair_groupings.new.table in
-    let l = c.args.b.«to».level in
-    let b = connection_of old.tuples c.args.b in
-    let d = connection_of old.tuples c.args.c in
-    let h = c.in_ok-to.ensures.paired in
-    let e = c.in_ok-to.«to» in
-    let canon : IsCanon (zip (pattern old.levels l b.callee) (pattern old.levels l d.callee)) (pattern new.levels e.level e.at) c.as_slice.result.now =
-    subst (λ (v : List _). IsCanon (zip (pattern old.levels l b.callee) (pattern old.levels l d.callee)) (pattern new.levels e.level e.at) v) (sym c.as_slice.ensures.value)
-    (subst (λ (m : ℕ). IsCanon (zip (pattern old.levels l b.callee) (pattern old.levels m d.callee)) (pattern new.levels e.level e.at) c.in_ok-to.pairs.items) c.requires.second.over.level h.canon) in
-    let eb : c.tuple.result.now ≡ b.returns = c.tuple.ensures ∙ kept_at old.tuples new.tuples c.in_ok-to.ensures.longer c.args.b.ret.at [] c.requires.first.over.tuple in
-    let ed : c.tuple-2.result.now ≡ d.returns = c.tuple-2.ensures ∙ kept_at old.tuples new.tuples c.in_ok-to.ensures.longer c.args.c.ret.at [] c.requires.second.over.tuple in
-    record {
-      within = λ j x lj. (let r = pairs_in old.levels c.requires.good l b d c.requires.first.good c.requires.second.good (pattern new.levels e.level e.at) c.as_slice.result.now canon j x lj in
-          (omega (arith, r.0, ap length eb), omega (arith, r.1, ap length ed)));
-    }
-
-pub pair_row-returns-clause-row : goal.pair_row-returns-clause-row
-pair_row-returns-clause-row g t c =
-    let old = c.args.table.now in
-    let new = c.pair_groupings.new.table in
-    let l = c.args.b.«to».level in
-    let b = connection_of old.tuples c.args.b in
-    let d = connection_of old.tuples c.args.c in
-    let e = c.in_ok-to.«to» in
-    let ps = c.in_ok-to.pairs.items in
-    let h : HasCanon new.levels e l (zip (pattern old.levels l b.callee) (pattern old.levels l d.callee)) ps = subst (λ (m : ℕ). HasCanon new.levels e l (zip (pattern old.levels l b.callee) (pattern old.levels m d.callee)) ps) c.requires.second.over.level c.in_ok-to.ensures.paired in
-    let eb : c.tuple.result.now ≡ b.returns = c.tuple.ensures ∙ kept_at old.tuples new.tuples c.in_ok-to.ensures.longer c.args.b.ret.at [] c.requires.first.over.tuple in
-    let ed : c.tuple-2.result.now ≡ d.returns = c.tuple-2.ensures ∙ kept_at old.tuples new.tuples c.in_ok-to.ensures.longer c.args.c.ret.at [] c.requires.second.over.tuple in
-    let said : c.in_ok-labels.labels.items ≡ map (returned2 b.returns d.returns) ps = c.in_ok-labels.ensures ∙ ap (λ (v : List (ℕ × ℕ)). map (returned2 c.tuple.result.now c.tuple-2.result.now) v) c.as_slice.ensures.value
-    ∙ ap (λ (v : List ℕ). map (returned2 v c.tuple-2.result.now) ps) eb ∙ ap (λ (v : List ℕ). map (returned2 b.returns v) ps) ed in
-    pair_lists old.levels new.levels c.requires.good c.in_ok-to.ensures.good l b d c.requires.first.good c.requires.second.good e ps c.in_ok-labels.labels h said
-
-pub pair_row-returns-clause-added : goal.pair_row-returns-clause-added
-pair_row-returns-clause-added g t c =
-    let old = c.args.table.now.levels in
-    let new = c.pair_groupings.new.table.levels in
-    let e = c.in_ok-to.«to» in
-    subst (λ (m : ℕ). AddsOnly old new (sub m (pattern new m e.at))) c.in_ok-to.ensures.paired.level c.in_ok-to.ensures.added
 
 pub pair_rows-pair_row-requires : goal.pair_rows-pair_row-requires
 pair_rows-pair_row-requires g t c κs within =
@@ -217,72 +180,6 @@ pair_parts-returns-clause-added g t c =
     if_ok2 c.assemble.result _ _ _ c.assemble.ensures.assembled c.assemble.ensures.added
     (λ r s x. (assembly old new v c.assemble.new.table.levels c.args.g c.args.h c.a_of-a.result c.a_of-b.result c.in_ok-callee.callee ms rows r.0 r.1.items w c.assemble.ensures.good c.assemble.ensures.kept s c.in_ok-callee.ensures.added added x).1)
 
-pub pair_groupings-returns-then-g-eq0-clause-charged : goal.pair_groupings-returns-then-g-eq0-clause-charged
-pair_groupings-returns-then-g-eq0-clause-charged g t c = charged_none _ _ _ _ _ _ _ _ _ refl (omega arith)
-
-pub pair_groupings-returns-in_err-product-clause-charged : goal.pair_groupings-returns-in_err-product-clause-charged
-pair_groupings-returns-in_err-product-clause-charged g t c = charged_none _ _ _ _ _ _ _ _ _ refl (omega arith)
-
-pub pair_groupings-returns-in-Some-clause-charged : goal.pair_groupings-returns-in-Some-clause-charged
-pair_groupings-returns-in-Some-clause-charged g t c = charged_none _ _ _ _ _ _ _ _ _ refl (omega arith)
-
-pub pair_groupings-returns-in-Some-product_of-clause-charged : goal.pair_groupings-returns-in-Some-product_of-clause-charged
-pair_groupings-returns-in-Some-product_of-clause-charged g t c = charged_none _ _ _ _ _ _ _ _ _ refl (omega arith)
-
-pub pair_groupings-returns-in_err-head-clause-charged : goal.pair_groupings-returns-in_err-head-clause-charged
-pair_groupings-returns-in_err-head-clause-charged g t c =
-    let old = c.args.table.now in
-    let k = patterns_of old.levels c.args.g c.args.h in
-    charged_self old.products c.pair_parts.new.table.products c.pair_parts.new.table.products k.0 k.1 (2 * pair_work k) c.args.steps.now c.pair_parts.new.steps false (is_ok c.from_residual-in_err-head.result) c.in_err-head.ensures.charged c.in_default-product_of.ensures (omega arith)
-    (sub_self k.0.level k.0.ranks) (sub_self k.1.level k.1.ranks) (λ e. absurd (failed c.from_residual-in_err-head.result c.from_residual-in_err-head.ensures.0 e))
-
-pub pair_groupings-keep_product-requires-clause-product : goal.pair_groupings-keep_product-requires-clause-product
-pair_groupings-keep_product-requires-clause-product g t c =
-    let old = c.args.table.now.levels in
-    let new = c.pair_parts.new.table.levels in
-    let x = c.in_ok-head.ensures.extends in
-    let p = c.in_ok-head.ensures.paired in
-    let k = c.args.g.level in
-    let l = c.args.h.level in
-    record {
-      first = omega (arith, c.requires.first, x.more k);
-      second = omega (arith, c.requires.second, x.more l);
-      levels = c.requires.levels;
-      level = p.level;
-      there = p.there;
-      canon = subst (λ (ps : List (ℕ × ℕ)). IsCanon (zip (pattern new k c.args.g.at) (pattern new l c.args.h.at)) (pattern new c.in_ok-head.head.level c.in_ok-head.head.at) ps) (sym c.as_slice.ensures.value)
-          (subst (λ (r : List ℕ). IsCanon (zip r (pattern new l c.args.h.at)) (pattern new c.in_ok-head.head.level c.in_ok-head.head.at) c.in_ok-head.pairs.items) (sym (pattern_kept old new c.requires.good x k c.args.g.at c.requires.first))
-          (subst (λ (r : List ℕ). IsCanon (zip (pattern old k c.args.g.at) r) (pattern new c.in_ok-head.head.level c.in_ok-head.head.at) c.in_ok-head.pairs.items) (sym (pattern_kept old new c.requires.good x l c.args.h.at c.requires.second)) p.canon));
-    }
-
-pub pair_groupings-keep_product-requires-clause-new : goal.pair_groupings-keep_product-requires-clause-new
-pair_groupings-keep_product-requires-clause-new g t c =
-    let old = c.args.table.now in
-    let new = c.pair_parts.new.table in
-    let k = patterns_of old.levels c.args.g c.args.h in
-    subst (λ (x : Pattern × Pattern). IsNew new.products x) (sym (pair_kept old.levels new.levels c.requires.good c.in_ok-head.ensures.extends c.args.g c.args.h c.requires.first c.requires.second))
-    (still_new old.products new.products k.0 k.1 (2 * pair_work k) c.args.steps.now c.pair_parts.new.steps c.in_ok-head.ensures.charged c.in_default-product_of.ensures)
-
-pub pair_groupings-returns-in_err-keep_product-clause-charged : goal.pair_groupings-returns-in_err-keep_product-clause-charged
-pair_groupings-returns-in_err-keep_product-clause-charged g t c =
-    let old = c.args.table.now in
-    let k = patterns_of old.levels c.args.g c.args.h in
-    charged_self old.products c.pair_parts.new.table.products c.keep_product.new.self.products k.0 k.1 (2 * pair_work k) c.args.steps.now c.pair_parts.new.steps true (is_ok c.from_residual-in_err-keep_product.result) c.in_ok-head.ensures.charged c.in_default-product_of.ensures (omega arith)
-    (sub_self k.0.level k.0.ranks) (sub_self k.1.level k.1.ranks) (λ e. absurd (failed c.from_residual-in_err-keep_product.result c.from_residual-in_err-keep_product.ensures.0 e))
-
-pub pair_groupings-returns-clause-added : goal.pair_groupings-returns-clause-added
-pair_groupings-returns-clause-added g t c =
-    subst (λ (u : Levels). AddsOnly c.args.table.now.levels u (sub c.in_ok-head.head.level (pattern u c.in_ok-head.head.level c.in_ok-head.head.at))) (sym c.in_ok-keep_product.ensures.levels) c.in_ok-head.ensures.added
-
-pub pair_groupings-returns-clause-charged : goal.pair_groupings-returns-clause-charged
-pair_groupings-returns-clause-charged g t c =
-    let old = c.args.table.now in
-    let new = c.pair_parts.new.table in
-    let k = patterns_of old.levels c.args.g c.args.h in
-    let same = pair_kept old.levels new.levels c.requires.good c.in_ok-head.ensures.extends c.args.g c.args.h c.requires.first c.requires.second in
-    charged_self old.products new.products c.keep_product.new.self.products k.0 k.1 (2 * pair_work k) c.args.steps.now c.pair_parts.new.steps true true c.in_ok-head.ensures.charged c.in_default-product_of.ensures (omega arith)
-    (sub_self k.0.level k.0.ranks) (sub_self k.1.level k.1.ranks) (λ e. (refl, c.in_ok-keep_product.ensures.kept ∙ ap (λ (x : Pattern × Pattern). new.products ++ x ∷ []) same))
-
 pub pair_parts-returns-in_err-callee-clause-charged : goal.pair_parts-returns-in_err-callee-clause-charged
 pair_parts-returns-in_err-callee-clause-charged g t c =
     let old = c.args.table.now in
@@ -337,6 +234,9 @@ pair_rows-loop-i-init g t c = record {
   charged = charged_none _ _ _ _ _ _ _ _ _ refl (omega arith);
 }
 
+pub pair_rows-returns-in_err-rows-clause-charged : goal.pair_rows-returns-in_err-rows-clause-charged
+pair_rows-returns-in_err-rows-clause-charged g t c = charged_none _ _ _ _ _ _ _ _ _ refl (omega arith)
+
 pub pair_rows-returns-in_err-row-clause-charged : goal.pair_rows-returns-in_err-row-clause-charged
 pair_rows-returns-in_err-row-clause-charged g t c =
     let old = c.args.table.now in
@@ -349,12 +249,12 @@ pair_rows-returns-in_err-row-clause-charged g t c =
     let k = patterns_of old.levels c.args.g c.args.h in
     let q = patterns_of now.levels b.result.«to» d.result.«to» in
     let own = 2 * length c.args.middles.now in
-    charged_weaker old.products c.pair_row.new.table.products k.0 k.1 c.args.g.level own own c.args.steps.now c.pair_row.new.steps false (is_ok c.from_residual.result)
+    charged_weaker old.products c.pair_row.new.table.products k.0 k.1 c.args.g.level own own c.args.steps.now c.pair_row.new.steps false (is_ok c.from_residual-in_err-row.result)
     (charged_then old.products now.products c.pair_row.new.table.products k.0 k.1 q.0 q.1 c.args.g.level (suc b.result.«to».level) own (2 * c.loop-i.i) 0 c.args.steps.now c.loop-i.steps d.new.steps c.pair_row.new.steps false c.loop-i.invariant.charged c.in_err-row.ensures.charged
     (row_parts old now c.requires.good x c.args.g c.args.h b.result d.result m c.requires.first c.requires.second in_ b.ensures.level d.ensures.level b.ensures.connection d.ensures.connection)
     (omega (arith, b.ensures.ticks, d.ensures.ticks, c.loop-i-test.true)))
     (omega arith)
-    (λ e. absurd (failed c.from_residual.result c.from_residual.ensures.0 e))
+    (λ e. absurd (failed c.from_residual-in_err-row.result c.from_residual-in_err-row.ensures.0 e))
 
 pub pair_rows-returns-in_err-push-clause-charged : goal.pair_rows-returns-in_err-push-clause-charged
 pair_rows-returns-in_err-push-clause-charged g t c =
@@ -374,3 +274,118 @@ pair_rows-returns-in_err-push-clause-charged g t c =
     (omega (arith, b.ensures.ticks, d.ensures.ticks, c.loop-i-test.true)))
     (omega arith)
     (λ e. refl)
+
+pub pair_groupings-returns-in_err-product-clause-charged : goal.pair_groupings-returns-in_err-product-clause-charged
+pair_groupings-returns-in_err-product-clause-charged g t c = charged_none _ _ _ _ _ _ _ _ _ refl (omega arith)
+
+pub pair_groupings-returns-in-Some-clause-charged : goal.pair_groupings-returns-in-Some-clause-charged
+pair_groupings-returns-in-Some-clause-charged g t c = charged_none _ _ _ _ _ _ _ _ _ refl (omega arith)
+
+pub pair_groupings-returns-in_err-head-clause-charged : goal.pair_groupings-returns-in_err-head-clause-charged
+pair_groupings-returns-in_err-head-clause-charged g t c =
+    let unknown : IsUnknown c.args.table.now c.args.g c.args.h = none_of c.in_ok-product.field-0 _ _ c.in_default.not-Some c.in_ok-product.ensures in
+    charged_failed c.args.table.now c.pair_parts.new.table.products c.pair_parts.new.table.products c.args.g c.args.h c.args.steps.now c.pair_parts.new.steps false c.from_residual-in_err-head.result c.from_residual-in_err-head.ensures.0 unknown.new c.in_err-head.ensures.charged
+
+pub pair_groupings-returns-in_err-kept-clause-charged : goal.pair_groupings-returns-in_err-kept-clause-charged
+pair_groupings-returns-in_err-kept-clause-charged g t c =
+    let unknown : IsUnknown c.args.table.now c.args.g c.args.h = none_of c.in_ok-product.field-0 _ _ c.in_default.not-Some c.in_ok-product.ensures in
+    charged_failed c.args.table.now c.pair_parts.new.table.products c.pair_parts.new.table.products c.args.g c.args.h c.args.steps.now c.pair_parts.new.steps true c.from_residual-in_err-kept.result c.from_residual-in_err-kept.ensures.0 unknown.new c.in_ok-head.ensures.charged
+
+pub pair_groupings-returns-in_err-keep_product-clause-charged : goal.pair_groupings-returns-in_err-keep_product-clause-charged
+pair_groupings-returns-in_err-keep_product-clause-charged g t c =
+    let unknown : IsUnknown c.args.table.now c.args.g c.args.h = none_of c.in_ok-product.field-0 _ _ c.in_default.not-Some c.in_ok-product.ensures in
+    charged_failed c.args.table.now c.pair_parts.new.table.products c.keep_product.new.self.products c.args.g c.args.h c.args.steps.now c.pair_parts.new.steps true c.from_residual-in_err-keep_product.result c.from_residual-in_err-keep_product.ensures.0 unknown.new c.in_ok-head.ensures.charged
+
+pub pair_groupings-keep_product-requires-clause-product : goal.pair_groupings-keep_product-requires-clause-product
+pair_groupings-keep_product-requires-clause-product g t c =
+    let q = c.in_ok-head.ensures in
+    subst (λ (ps : List (ℕ × ℕ)). IsProduct c.pair_parts.new.table.levels c.args.g c.args.h c.in_ok-head.head ps) (sym (c.in_ok-kept.ensures.items ∙ c.as_slice.ensures.value))
+    (is_product c.args.table.now.levels c.pair_parts.new.table.levels c.requires.good q.extends c.args.g c.args.h c.in_ok-head.head c.in_ok-head.pairs.items c.requires.levels c.requires.first c.requires.second q.paired)
+
+pub pair_groupings-keep_product-requires-clause-new : goal.pair_groupings-keep_product-requires-clause-new
+pair_groupings-keep_product-requires-clause-new g t c =
+    let unknown : IsUnknown c.args.table.now c.args.g c.args.h = none_of c.in_ok-product.field-0 _ _ c.in_default.not-Some c.in_ok-product.ensures in
+    still_unknown c.args.table.now c.pair_parts.new.table c.requires.good c.in_ok-head.ensures.extends c.args.g c.args.h c.requires.first c.requires.second c.args.steps.now c.pair_parts.new.steps unknown.new c.in_ok-head.ensures.charged
+
+pub pair_groupings-returns-clause-added : goal.pair_groupings-returns-clause-added
+pair_groupings-returns-clause-added g t c =
+    subst (λ (u : Levels). AddsOnly c.args.table.now.levels u (sub c.in_ok-head.head.level (pattern u c.in_ok-head.head.level c.in_ok-head.head.at))) (sym c.in_ok-keep_product.ensures.levels) c.in_ok-head.ensures.added
+
+pub pair_groupings-returns-clause-charged : goal.pair_groupings-returns-clause-charged
+pair_groupings-returns-clause-charged g t c =
+    let unknown : IsUnknown c.args.table.now c.args.g c.args.h = none_of c.in_ok-product.field-0 _ _ c.in_default.not-Some c.in_ok-product.ensures in
+    charged_kept c.args.table.now c.pair_parts.new.table c.keep_product.new.self.products c.requires.good c.in_ok-head.ensures.extends c.args.g c.args.h c.requires.first c.requires.second c.args.steps.now c.pair_parts.new.steps unknown.new c.in_ok-head.ensures.charged c.in_ok-keep_product.ensures.kept
+
+pub pair_row-returns-in_err-row-clause-charged : goal.pair_row-returns-in_err-row-clause-charged
+pair_row-returns-in_err-row-clause-charged g t c = charged_none _ _ _ _ _ _ _ _ _ refl (omega arith)
+
+pub pair_row-returns-in-Some-clause-charged : goal.pair_row-returns-in-Some-clause-charged
+pair_row-returns-in-Some-clause-charged g t c = charged_none _ _ _ _ _ _ _ _ _ refl (omega arith)
+
+pub pair_row-returns-in_err-to-clause-charged : goal.pair_row-returns-in_err-to-clause-charged
+pair_row-returns-in_err-to-clause-charged g t c =
+    let unknown : IsUnknown c.args.table.now c.args.b.«to» c.args.c.«to» = none_of c.in_ok-row.field-0 _ _ c.in_default.not-Some c.in_ok-row.ensures in
+    charged_failed c.args.table.now c.pair_parts.new.table.products c.pair_parts.new.table.products c.args.b.«to» c.args.c.«to» c.args.steps.now c.pair_parts.new.steps false c.from_residual-in_err-to.result c.from_residual-in_err-to.ensures.0 unknown.new c.in_err-to.ensures.charged
+
+pub pair_row-returned_row-requires : goal.pair_row-returned_row-requires
+pair_row-returned_row-requires g t c =
+    let own_c : c.args.c.«to».at < count c.args.table.now.levels c.args.c.«to».level = subst (λ (m : ℕ). c.args.c.«to».at < count c.args.table.now.levels m) (sym c.requires.second.over.level) c.requires.second.good.callee_exists in
+    let old = c.args.table.now in
+    let new = c.pair_parts.new.table in
+    let q = c.in_ok-to.ensures in
+    record {
+      good = q.good;
+      first = good_over_kept old new q.extends q.longer c.args.b.«to».level c.args.b c.requires.first;
+      second = good_over_kept old new q.extends q.longer c.args.b.«to».level c.args.c c.requires.second;
+      product = subst (λ (ps : List (ℕ × ℕ)). HasCanon new.levels c.in_ok-to.«to» c.args.b.«to».level (zip (pattern new.levels c.args.b.«to».level c.args.b.«to».at) (pattern new.levels c.args.c.«to».level c.args.c.«to».at)) ps) (sym c.as_slice.ensures.value)
+          (canon_kept old.levels new.levels c.requires.good q.extends c.args.b.«to» c.args.c.«to» c.in_ok-to.«to» c.in_ok-to.pairs.items c.requires.first.good.callee_exists own_c q.paired);
+    }
+
+pub pair_row-returns-in_err-row-2-clause-charged : goal.pair_row-returns-in_err-row-2-clause-charged
+pair_row-returns-in_err-row-2-clause-charged g t c =
+    let unknown : IsUnknown c.args.table.now c.args.b.«to» c.args.c.«to» = none_of c.in_ok-row.field-0 _ _ c.in_default.not-Some c.in_ok-row.ensures in
+    charged_failed c.args.table.now c.pair_parts.new.table.products c.pair_parts.new.table.products c.args.b.«to» c.args.c.«to» c.args.steps.now c.pair_parts.new.steps true c.from_residual-in_err-row-2.result c.from_residual-in_err-row-2.ensures.0 unknown.new c.in_ok-to.ensures.charged
+
+pub pair_row-keep_product-requires-clause-product : goal.pair_row-keep_product-requires-clause-product
+pair_row-keep_product-requires-clause-product g t c =
+    let own_c : c.args.c.«to».at < count c.args.table.now.levels c.args.c.«to».level = subst (λ (m : ℕ). c.args.c.«to».at < count c.args.table.now.levels m) (sym c.requires.second.over.level) c.requires.second.good.callee_exists in
+    is_product c.args.table.now.levels c.pair_parts.new.table.levels c.requires.good c.in_ok-to.ensures.extends c.args.b.«to» c.args.c.«to» c.in_ok-to.«to» c.in_ok-to.pairs.items c.requires.second.over.level c.requires.first.good.callee_exists own_c c.in_ok-to.ensures.paired
+
+pub pair_row-keep_product-requires-clause-new : goal.pair_row-keep_product-requires-clause-new
+pair_row-keep_product-requires-clause-new g t c =
+    let own_c : c.args.c.«to».at < count c.args.table.now.levels c.args.c.«to».level = subst (λ (m : ℕ). c.args.c.«to».at < count c.args.table.now.levels m) (sym c.requires.second.over.level) c.requires.second.good.callee_exists in
+    let unknown : IsUnknown c.args.table.now c.args.b.«to» c.args.c.«to» = none_of c.in_ok-row.field-0 _ _ c.in_default.not-Some c.in_ok-row.ensures in
+    still_unknown c.args.table.now c.pair_parts.new.table c.requires.good c.in_ok-to.ensures.extends c.args.b.«to» c.args.c.«to» c.requires.first.good.callee_exists own_c c.args.steps.now c.pair_parts.new.steps unknown.new c.in_ok-to.ensures.charged
+
+pub pair_row-returns-in_err-keep_product-clause-charged : goal.pair_row-returns-in_err-keep_product-clause-charged
+pair_row-returns-in_err-keep_product-clause-charged g t c =
+    let unknown : IsUnknown c.args.table.now c.args.b.«to» c.args.c.«to» = none_of c.in_ok-row.field-0 _ _ c.in_default.not-Some c.in_ok-row.ensures in
+    charged_failed c.args.table.now c.pair_parts.new.table.products c.keep_product.new.self.products c.args.b.«to» c.args.c.«to» c.args.steps.now c.pair_parts.new.steps true c.from_residual-in_err-keep_product.result c.from_residual-in_err-keep_product.ensures.0 unknown.new c.in_ok-to.ensures.charged
+
+pub pair_row-returns-clause-row : goal.pair_row-returns-clause-row
+pair_row-returns-clause-row g t c =
+    let old = c.args.table.now in
+    let new = c.pair_parts.new.table in
+    let q = c.in_ok-to.ensures in
+    let l = c.args.b.«to».level in
+    let left = row_kept old new c.requires.good q.extends q.longer l c.args.b c.requires.first in
+    let right = row_kept old new c.requires.good q.extends q.longer l c.args.c c.requires.second in
+    let r = c.in_ok-row-2.row in
+    subst (λ (u : Levels). Lists u l (zip (connection_row old l c.args.b) (connection_row old l c.args.c)) r) (sym c.in_ok-keep_product.ensures.levels)
+    (subst (λ (v : List ℕ). Lists new.levels l (zip (connection_row old l c.args.b) v) r) right (subst (λ (v : List ℕ). Lists new.levels l (zip v (connection_row new l c.args.c)) r) left c.in_ok-row-2.ensures.row))
+
+pub pair_row-returns-clause-added : goal.pair_row-returns-clause-added
+pair_row-returns-clause-added g t c =
+    let old = c.args.table.now.levels in
+    let new = c.pair_parts.new.table.levels in
+    let l = c.args.b.«to».level in
+    let q = c.in_ok-to.ensures in
+    let added : AddsOnly old new (sub l (pattern new l c.in_ok-to.«to».at)) = subst (λ (m : ℕ). AddsOnly old new (sub m (pattern new m c.in_ok-to.«to».at))) q.paired.level q.added in
+    subst (λ (u : Levels). AddsOnly old u (sub l (pattern u l c.in_ok-row-2.row.0.at))) (sym c.in_ok-keep_product.ensures.levels)
+    (subst (λ (r : Gid). AddsOnly old new (sub l (pattern new l r.at))) (sym c.in_ok-row-2.ensures.head) added)
+
+pub pair_row-returns-clause-charged : goal.pair_row-returns-clause-charged
+pair_row-returns-clause-charged g t c =
+    let own_c : c.args.c.«to».at < count c.args.table.now.levels c.args.c.«to».level = subst (λ (m : ℕ). c.args.c.«to».at < count c.args.table.now.levels m) (sym c.requires.second.over.level) c.requires.second.good.callee_exists in
+    let unknown : IsUnknown c.args.table.now c.args.b.«to» c.args.c.«to» = none_of c.in_ok-row.field-0 _ _ c.in_default.not-Some c.in_ok-row.ensures in
+    charged_kept c.args.table.now c.pair_parts.new.table c.keep_product.new.self.products c.requires.good c.in_ok-to.ensures.extends c.args.b.«to» c.args.c.«to» c.requires.first.good.callee_exists own_c c.args.steps.now c.pair_parts.new.steps unknown.new c.in_ok-to.ensures.charged c.in_ok-keep_product.ensures.kept

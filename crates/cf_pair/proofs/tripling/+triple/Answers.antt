@@ -1,71 +1,25 @@
-use Rattle.std.proofs.Common.{rules, ◌≡◌, ℕ, ◌<◌, ◌≤◌, ◌+◌, ◌*◌, ◌-◌, List, [], length, map, sym, ap, ◌∙◌, subst, arith, get_or}
-use Rattle.cf_model.specs.Renumbering.{IsCanon}
+use Rattle.std.proofs.Common.{rules, ◌≡◌, ℕ, ◌<◌, ◌≤◌, ◌+◌, ◌*◌, ◌-◌, List, length, sym, ap, ◌∙◌, subst, arith, get_or}
 use Rattle.cf_model.specs.Patterns.{sub}
 use Rattle.cf_model.specs.Diagrams.{connection_at, count, node, row, pattern}
 use Rattle.cf_model.proofs.Canonicity.{level_holds}
 use Rattle.cf_model.proofs.Growing.{exits_kept}
-use Rattle.cf_tuple.proofs.BookLaws.{kept_at}
 use Rattle.cf_table.specs.Groupings.{connection_of}
 use Rattle.cf_table.specs.Goodness.{IsGoodOver}
 use Rattle.cf_build.specs.Assembling.{IsRow, HasCanon, AddsOnly}
 use Rattle.cf_build.proofs.Turns.{if_ok2}
-use Rattle.cf_pair.specs.Products.{zip3, returned3, triple_word, Lists, ListEach, AddsOnlyIn}
+use Rattle.cf_table.specs.Triples.{zip3}
+use Rattle.cf_pair.specs.Products.{triple_word, Lists, ListEach, AddsOnlyIn}
 use Rattle.cf_pair.proofs.Rows.{listed_more}
 use Rattle.cf_pair.proofs.Pairs.{read_good, read_row}
-use Rattle.cf_pair.proofs.Triples.{triples_in, triple_lists, TripleCall, call_range, assembly3}
+use Rattle.cf_pair.proofs.Triples.{TripleCall, call_range, assembly3}
+use Rattle.cf_model.specs.Diagrams.{Levels}
+use Rattle.cf_build.proofs.Turns.{if_ok}
+use Rattle.cf_table.specs.declared.Gid.{Gid}
+use Rattle.cf_table.specs.Groupings.{Groupings}
+use Rattle.cf_table.specs.Triples.{IsTriple}
+use Rattle.cf_pair.specs.Products.{connection_row}
+use Rattle.cf_pair.proofs.Keeping.{good_over_kept, canon3_kept, is_triple, lists3_kept}
 use Rattle.cf_pair.proofs.tripling.+triple.Goals as goal
-
-pub triple_row-returned_triples-requires : goal.triple_row-returned_triples-requires
-triple_row-returned_triples-requires g t c =
-    let old = c.args.table.now in
-    let new = c.triple_groupings.new.table in
-    let l = c.args.x.«to».level in
-    let x = connection_of old.tuples c.args.x in
-    let y = connection_of old.tuples c.args.y in
-    let z = connection_of old.tuples c.args.z in
-    let e = c.in_ok-to.«to» in
-    let ts = c.in_ok-to.triples.items in
-    let longer = c.in_ok-to.ensures.longer in
-    let h : HasCanon new.levels e l (zip3 (pattern old.levels l x.callee) (pattern old.levels l y.callee) (pattern old.levels l z.callee)) ts =
-    subst (λ (m : ℕ). HasCanon new.levels e l (zip3 (pattern old.levels l x.callee) (pattern old.levels l y.callee) (pattern old.levels m z.callee)) ts) c.requires.third.over.level
-    (subst (λ (m : ℕ). HasCanon new.levels e l (zip3 (pattern old.levels l x.callee) (pattern old.levels m y.callee) (pattern old.levels c.args.z.«to».level z.callee)) ts) c.requires.second.over.level c.in_ok-to.ensures.tripled) in
-    let ex : c.tuple.result.now ≡ x.returns = c.tuple.ensures ∙ kept_at old.tuples new.tuples longer c.args.x.ret.at [] c.requires.first.over.tuple in
-    let ey : c.tuple-2.result.now ≡ y.returns = c.tuple-2.ensures ∙ kept_at old.tuples new.tuples longer c.args.y.ret.at [] c.requires.second.over.tuple in
-    let ez : c.tuple-3.result.now ≡ z.returns = c.tuple-3.ensures ∙ kept_at old.tuples new.tuples longer c.args.z.ret.at [] c.requires.third.over.tuple in
-    let canon : IsCanon (zip3 (pattern old.levels l x.callee) (pattern old.levels l y.callee) (pattern old.levels l z.callee)) (pattern new.levels e.level e.at) c.as_slice.result.now =
-    subst (λ (v : List (ℕ × ℕ × ℕ)). IsCanon (zip3 (pattern old.levels l x.callee) (pattern old.levels l y.callee) (pattern old.levels l z.callee)) (pattern new.levels e.level e.at) v) (sym c.as_slice.ensures.value) h.canon in
-    record {
-      within = λ j d lj. (let r = triples_in old.levels c.requires.good l x y z c.requires.first.good c.requires.second.good c.requires.third.good (pattern new.levels e.level e.at) c.as_slice.result.now canon j d lj in
-          (omega (arith, r.0, ap length ex), omega (arith, r.1, ap length ey), omega (arith, r.2, ap length ez)));
-    }
-
-pub triple_row-returns-clause-row : goal.triple_row-returns-clause-row
-triple_row-returns-clause-row g t c =
-    let old = c.args.table.now in
-    let new = c.triple_groupings.new.table in
-    let l = c.args.x.«to».level in
-    let x = connection_of old.tuples c.args.x in
-    let y = connection_of old.tuples c.args.y in
-    let z = connection_of old.tuples c.args.z in
-    let e = c.in_ok-to.«to» in
-    let ts = c.in_ok-to.triples.items in
-    let longer = c.in_ok-to.ensures.longer in
-    let h : HasCanon new.levels e l (zip3 (pattern old.levels l x.callee) (pattern old.levels l y.callee) (pattern old.levels l z.callee)) ts =
-    subst (λ (m : ℕ). HasCanon new.levels e l (zip3 (pattern old.levels l x.callee) (pattern old.levels l y.callee) (pattern old.levels m z.callee)) ts) c.requires.third.over.level
-    (subst (λ (m : ℕ). HasCanon new.levels e l (zip3 (pattern old.levels l x.callee) (pattern old.levels m y.callee) (pattern old.levels c.args.z.«to».level z.callee)) ts) c.requires.second.over.level c.in_ok-to.ensures.tripled) in
-    let ex : c.tuple.result.now ≡ x.returns = c.tuple.ensures ∙ kept_at old.tuples new.tuples longer c.args.x.ret.at [] c.requires.first.over.tuple in
-    let ey : c.tuple-2.result.now ≡ y.returns = c.tuple-2.ensures ∙ kept_at old.tuples new.tuples longer c.args.y.ret.at [] c.requires.second.over.tuple in
-    let ez : c.tuple-3.result.now ≡ z.returns = c.tuple-3.ensures ∙ kept_at old.tuples new.tuples longer c.args.z.ret.at [] c.requires.third.over.tuple in
-    let said : c.in_ok-labels.labels.items ≡ map (returned3 x.returns y.returns z.returns) ts = c.in_ok-labels.ensures ∙ ap (λ (v : List (ℕ × ℕ × ℕ)). map (returned3 c.tuple.result.now c.tuple-2.result.now c.tuple-3.result.now) v) c.as_slice.ensures.value
-    ∙ ap (λ (v : List ℕ). map (returned3 v c.tuple-2.result.now c.tuple-3.result.now) ts) ex ∙ ap (λ (v : List ℕ). map (returned3 x.returns v c.tuple-3.result.now) ts) ey ∙ ap (λ (v : List ℕ). map (returned3 x.returns y.returns v) ts) ez in
-    triple_lists old.levels new.levels c.requires.good c.in_ok-to.ensures.good l x y z c.requires.first.good c.requires.second.good c.requires.third.good e ts c.in_ok-labels.labels h said
-
-pub triple_row-returns-clause-added : goal.triple_row-returns-clause-added
-triple_row-returns-clause-added g t c =
-    let old = c.args.table.now.levels in
-    let new = c.triple_groupings.new.table.levels in
-    let e = c.in_ok-to.«to» in
-    subst (λ (m : ℕ). AddsOnly old new (sub m (pattern new m e.at))) c.in_ok-to.ensures.tripled.level c.in_ok-to.ensures.added
 
 pub triple_rows-triple_row-requires : goal.triple_rows-triple_row-requires
 triple_rows-triple_row-requires g t c κs within =
@@ -90,7 +44,7 @@ triple_rows-triple_row-requires g t c κs within =
     let fx : IsGoodOver now x.«to».level x = subst (λ (i : ℕ). IsGoodOver now i x) (sym lev) gx in
     let fy : IsGoodOver now x.«to».level y = subst (λ (i : ℕ). IsGoodOver now i y) (sym lev) gy in
     let fz : IsGoodOver now x.«to».level z = subst (λ (i : ℕ). IsGoodOver now i z) (sym lev) gz in
-    let falls : 3 * x.«to».level + 1 < 3 * k - 1 = omega (arith, lev, c.requires.above) in
+    let falls : 4 * x.«to».level + 1 < 4 * k - 2 = omega (arith, lev, c.requires.above) in
     search rules
 
 pub triple_rows-loop-i-preserved : goal.triple_rows-loop-i-preserved
@@ -128,15 +82,15 @@ triple_rows-loop-i-preserved g t c =
     listed_more old now new l (λ i. word (get_or c.args.middles.now i (0, 0, 0))) c.loop-i.i c.loop-i.rows.items c.push.new.self.items r c.loop-i.invariant wanted added
     c.in_ok-row.ensures.good c.in_ok-row.ensures.extends c.in_ok-row.ensures.longer c.in_ok-push.ensures.items
 
-pub triple_groupings-triple_rows-requires : goal.triple_groupings-triple_rows-requires
-triple_groupings-triple_rows-requires g t c κs within =
+pub triple_parts-triple_rows-requires : goal.triple_parts-triple_rows-requires
+triple_parts-triple_rows-requires g t c κs within =
     let old = c.args.table.now.levels in
     let new = c.triple_groupings.new.table.levels in
     let ms = c.as_slice.result.now in
     let e = c.in_ok-callee.callee in
     let w : TripleCall old new c.args.f c.args.g c.args.h c.a_of-a.result c.a_of-b.result c.a_of-c.result e ms = record {
       good = c.requires.good;
-      positive = c.if-f-eq0.false;
+      positive = λ e. omega (arith, e, c.requires.above);
       second_level = c.requires.second_level;
       third_level = c.requires.third_level;
       first = c.requires.first;
@@ -154,24 +108,24 @@ triple_groupings-triple_rows-requires g t c κs within =
     } in
     let k = c.args.f.level in
     let x = c.in_ok-callee.ensures.extends in
-    let positive : 1 ≤ k = omega (arith, c.if-f-eq0.false) in
+    let positive : 1 ≤ k = c.requires.above in
     let all = call_range old new c.args.f c.args.g c.args.h c.a_of-a.result c.a_of-b.result c.a_of-c.result e ms w in
     let fu : c.args.f.at < count new k = omega (arith, c.requires.first, x.more k) in
     let gu : c.args.g.at < count new c.args.g.level = omega (arith, c.requires.second, x.more c.args.g.level) in
     let hu : c.args.h.at < count new c.args.h.level = omega (arith, c.requires.third, x.more c.args.h.level) in
-    let falls : 3 * k - 1 < 3 * k = omega (arith, positive) in
+    let falls : 4 * k - 2 < 4 * k - 1 = omega (arith, positive) in
     search rules
 
-pub triple_groupings-assemble-requires-clause-middles : goal.triple_groupings-assemble-requires-clause-middles
-triple_groupings-assemble-requires-clause-middles g t c =
+pub triple_parts-assemble-requires-clause-middles : goal.triple_parts-assemble-requires-clause-middles
+triple_parts-assemble-requires-clause-middles g t c =
     let new = c.triple_groupings.new.table.levels in
     let e = c.in_ok-callee.callee in
     let p = c.in_ok-callee.ensures.tripled in
     ap length c.as_slice-2.ensures.value ∙ c.in_ok-rows.ensures.rows.long ∙ ap length c.as_slice.ensures.value ∙ sym p.canon.reached
     ∙ (level_holds new c.in_ok-callee.ensures.good e.level).reaches e.at p.there ∙ sym (exits_kept new c.triple_rows.new.table.levels c.in_ok-rows.ensures.extends e.level e.at p.there)
 
-pub triple_groupings-assemble-requires-clause-rows : goal.triple_groupings-assemble-requires-clause-rows
-triple_groupings-assemble-requires-clause-rows g t c k d lk =
+pub triple_parts-assemble-requires-clause-rows : goal.triple_parts-assemble-requires-clause-rows
+triple_parts-assemble-requires-clause-rows g t c k d lk =
     let v = c.triple_rows.new.table.levels in
     let q = c.as_slice-2.ensures.value in
     let w = c.in_ok-rows.ensures.rows in
@@ -179,15 +133,15 @@ triple_groupings-assemble-requires-clause-rows g t c k d lk =
     let lev : c.args.f.level - 1 ≡ c.in_ok-callee.callee.level = omega (arith, c.in_ok-callee.ensures.tripled.level, c.a_of-a.ensures.level) in
     subst (λ (l : ℕ). IsRow v l (get_or c.as_slice-2.result.now k d)) lev (subst (λ (x : _). IsRow v (c.args.f.level - 1) (get_or x k d)) (sym q) r)
 
-pub triple_groupings-returns-clause-tripled : goal.triple_groupings-returns-clause-tripled
-triple_groupings-returns-clause-tripled g t c =
+pub triple_parts-returns-clause-tripled : goal.triple_parts-returns-clause-tripled
+triple_parts-returns-clause-tripled g t c =
     let old = c.args.table.now.levels in
     let new = c.triple_groupings.new.table.levels in
     let ms = c.as_slice.result.now in
     let e = c.in_ok-callee.callee in
     let w : TripleCall old new c.args.f c.args.g c.args.h c.a_of-a.result c.a_of-b.result c.a_of-c.result e ms = record {
       good = c.requires.good;
-      positive = c.if-f-eq0.false;
+      positive = λ e. omega (arith, e, c.requires.above);
       second_level = c.requires.second_level;
       third_level = c.requires.third_level;
       first = c.requires.first;
@@ -212,15 +166,15 @@ triple_groupings-returns-clause-tripled g t c =
     if_ok2 c.assemble.result _ _ _ c.assemble.ensures.assembled c.assemble.ensures.added
     (λ r s x. (assembly3 old new v c.assemble.new.table.levels c.args.f c.args.g c.args.h c.a_of-a.result c.a_of-b.result c.a_of-c.result e ms rows r.0 r.1.items w c.in_ok-rows.ensures.good c.in_ok-rows.ensures.extends listed c.assemble.ensures.good c.assemble.ensures.kept s c.in_ok-callee.ensures.added added x).0)
 
-pub triple_groupings-returns-clause-added : goal.triple_groupings-returns-clause-added
-triple_groupings-returns-clause-added g t c =
+pub triple_parts-returns-clause-added : goal.triple_parts-returns-clause-added
+triple_parts-returns-clause-added g t c =
     let old = c.args.table.now.levels in
     let new = c.triple_groupings.new.table.levels in
     let ms = c.as_slice.result.now in
     let e = c.in_ok-callee.callee in
     let w : TripleCall old new c.args.f c.args.g c.args.h c.a_of-a.result c.a_of-b.result c.a_of-c.result e ms = record {
       good = c.requires.good;
-      positive = c.if-f-eq0.false;
+      positive = λ e. omega (arith, e, c.requires.above);
       second_level = c.requires.second_level;
       third_level = c.requires.third_level;
       first = c.requires.first;
@@ -244,3 +198,82 @@ triple_groupings-returns-clause-added g t c =
     let added : AddsOnlyIn new v l rows = subst (λ (x : _). AddsOnlyIn new v l x) (sym c.as_slice-2.ensures.value) c.in_ok-rows.ensures.added in
     if_ok2 c.assemble.result _ _ _ c.assemble.ensures.assembled c.assemble.ensures.added
     (λ r s x. (assembly3 old new v c.assemble.new.table.levels c.args.f c.args.g c.args.h c.a_of-a.result c.a_of-b.result c.a_of-c.result e ms rows r.0 r.1.items w c.in_ok-rows.ensures.good c.in_ok-rows.ensures.extends listed c.assemble.ensures.good c.assemble.ensures.kept s c.in_ok-callee.ensures.added added x).1)
+
+pub triple_groupings-keep_triple-requires : goal.triple_groupings-keep_triple-requires
+triple_groupings-keep_triple-requires g t c =
+    let new = c.triple_parts.new.table.levels in
+    let q = c.in_ok-head.ensures in
+    subst (λ (ts : List (ℕ × ℕ × ℕ)). IsTriple new c.args.f c.args.g c.args.h c.in_ok-head.head ts) (sym (c.in_ok-kept.ensures.items ∙ c.as_slice.ensures.value))
+    (is_triple c.args.table.now.levels new c.requires.good q.extends c.args.f c.args.g c.args.h c.in_ok-head.head c.in_ok-head.triples.items c.requires.first c.requires.second c.requires.third q.tripled)
+
+pub triple_groupings-returns-clause-added : goal.triple_groupings-returns-clause-added
+triple_groupings-returns-clause-added g t c =
+    subst (λ (u : Levels). AddsOnly c.args.table.now.levels u (sub c.in_ok-head.head.level (pattern u c.in_ok-head.head.level c.in_ok-head.head.at))) (sym (ap (λ (t : Groupings). t.levels) c.keep_triple.ensures)) c.in_ok-head.ensures.added
+
+pub triple_row-returned_row-requires : goal.triple_row-returned_row-requires
+triple_row-returned_row-requires g t c =
+    let own_y : c.args.y.«to».at < count c.args.table.now.levels c.args.y.«to».level = subst (λ (m : ℕ). c.args.y.«to».at < count c.args.table.now.levels m) (sym c.requires.second.over.level) c.requires.second.good.callee_exists in
+    let own_z : c.args.z.«to».at < count c.args.table.now.levels c.args.z.«to».level = subst (λ (m : ℕ). c.args.z.«to».at < count c.args.table.now.levels m) (sym c.requires.third.over.level) c.requires.third.good.callee_exists in
+    let old = c.args.table.now in
+    let new = c.triple_groupings.new.table in
+    let q = c.in_ok-to.ensures in
+    record {
+      good = q.good;
+      first = good_over_kept old new q.extends q.longer c.args.x.«to».level c.args.x c.requires.first;
+      second = good_over_kept old new q.extends q.longer c.args.x.«to».level c.args.y c.requires.second;
+      third = good_over_kept old new q.extends q.longer c.args.x.«to».level c.args.z c.requires.third;
+      product = subst (λ (ts : List (ℕ × ℕ × ℕ)). HasCanon new.levels c.in_ok-to.«to» c.args.x.«to».level (zip3 (pattern new.levels c.args.x.«to».level c.args.x.«to».at) (pattern new.levels c.args.y.«to».level c.args.y.«to».at) (pattern new.levels c.args.z.«to».level c.args.z.«to».at)) ts) (sym c.as_slice.ensures.value)
+          (canon3_kept old.levels new.levels c.requires.good q.extends c.args.x.«to» c.args.y.«to» c.args.z.«to» c.in_ok-to.«to» c.in_ok-to.triples.items c.requires.first.good.callee_exists own_y own_z q.tripled);
+    }
+
+pub triple_row-returns-then-is_plain-clause-row : goal.triple_row-returns-then-is_plain-clause-row
+triple_row-returns-then-is_plain-clause-row g t c =
+    if_ok c.returned_row.result _ _ c.returned_row.ensures.row (λ r h. lists3_kept c.args.table.now c.triple_groupings.new.table c.requires.good c.in_ok-to.ensures.extends c.in_ok-to.ensures.longer c.args.x.«to».level c.args.x c.args.y c.args.z c.requires.first c.requires.second c.requires.third r h)
+
+pub triple_row-returns-then-is_plain-clause-added : goal.triple_row-returns-then-is_plain-clause-added
+triple_row-returns-then-is_plain-clause-added g t c =
+    let old = c.args.table.now.levels in
+    let new = c.triple_groupings.new.table.levels in
+    let l = c.args.x.«to».level in
+    let q = c.in_ok-to.ensures in
+    let added : AddsOnly old new (sub l (pattern new l c.in_ok-to.«to».at)) = subst (λ (m : ℕ). AddsOnly old new (sub m (pattern new m c.in_ok-to.«to».at))) q.tripled.level q.added in
+    if_ok c.returned_row.result _ _ c.returned_row.ensures.head (λ r h. subst (λ (e : Gid). AddsOnly old new (sub l (pattern new l e.at))) (sym h) added)
+
+pub triple_row-returned_row-requires-2 : goal.triple_row-returned_row-requires-2
+triple_row-returned_row-requires-2 g t c =
+    let own_y : c.args.y.«to».at < count c.args.table.now.levels c.args.y.«to».level = subst (λ (m : ℕ). c.args.y.«to».at < count c.args.table.now.levels m) (sym c.requires.second.over.level) c.requires.second.good.callee_exists in
+    let own_z : c.args.z.«to».at < count c.args.table.now.levels c.args.z.«to».level = subst (λ (m : ℕ). c.args.z.«to».at < count c.args.table.now.levels m) (sym c.requires.third.over.level) c.requires.third.good.callee_exists in
+    let old = c.args.table.now in
+    let new = c.triple_parts.new.table in
+    let q = c.in_ok-to-2.ensures in
+    record {
+      good = q.good;
+      first = good_over_kept old new q.extends q.longer c.args.x.«to».level c.args.x c.requires.first;
+      second = good_over_kept old new q.extends q.longer c.args.x.«to».level c.args.y c.requires.second;
+      third = good_over_kept old new q.extends q.longer c.args.x.«to».level c.args.z c.requires.third;
+      product = subst (λ (ts : List (ℕ × ℕ × ℕ)). HasCanon new.levels c.in_ok-to-2.«to» c.args.x.«to».level (zip3 (pattern new.levels c.args.x.«to».level c.args.x.«to».at) (pattern new.levels c.args.y.«to».level c.args.y.«to».at) (pattern new.levels c.args.z.«to».level c.args.z.«to».at)) ts) (sym c.as_slice-2.ensures.value)
+          (canon3_kept old.levels new.levels c.requires.good q.extends c.args.x.«to» c.args.y.«to» c.args.z.«to» c.in_ok-to-2.«to» c.in_ok-to-2.triples.items c.requires.first.good.callee_exists own_y own_z q.tripled);
+    }
+
+pub triple_row-keep_triple-requires : goal.triple_row-keep_triple-requires
+triple_row-keep_triple-requires g t c =
+    let own_y : c.args.y.«to».at < count c.args.table.now.levels c.args.y.«to».level = subst (λ (m : ℕ). c.args.y.«to».at < count c.args.table.now.levels m) (sym c.requires.second.over.level) c.requires.second.good.callee_exists in
+    let own_z : c.args.z.«to».at < count c.args.table.now.levels c.args.z.«to».level = subst (λ (m : ℕ). c.args.z.«to».at < count c.args.table.now.levels m) (sym c.requires.third.over.level) c.requires.third.good.callee_exists in
+    is_triple c.args.table.now.levels c.triple_parts.new.table.levels c.requires.good c.in_ok-to-2.ensures.extends c.args.x.«to» c.args.y.«to» c.args.z.«to» c.in_ok-to-2.«to» c.in_ok-to-2.triples.items c.requires.first.good.callee_exists own_y own_z c.in_ok-to-2.ensures.tripled
+
+pub triple_row-returns-clause-row : goal.triple_row-returns-clause-row
+triple_row-returns-clause-row g t c =
+    let l = c.args.x.«to».level in
+    let r = c.in_ok-row-2.row in
+    subst (λ (u : Groupings). Lists u.levels l (zip3 (connection_row c.args.table.now l c.args.x) (connection_row c.args.table.now l c.args.y) (connection_row c.args.table.now l c.args.z)) r) (sym c.keep_triple.ensures)
+    (lists3_kept c.args.table.now c.triple_parts.new.table c.requires.good c.in_ok-to-2.ensures.extends c.in_ok-to-2.ensures.longer c.args.x.«to».level c.args.x c.args.y c.args.z c.requires.first c.requires.second c.requires.third r c.in_ok-row-2.ensures.row)
+
+pub triple_row-returns-clause-added : goal.triple_row-returns-clause-added
+triple_row-returns-clause-added g t c =
+    let old = c.args.table.now.levels in
+    let new = c.triple_parts.new.table.levels in
+    let l = c.args.x.«to».level in
+    let q = c.in_ok-to-2.ensures in
+    let added : AddsOnly old new (sub l (pattern new l c.in_ok-to-2.«to».at)) = subst (λ (m : ℕ). AddsOnly old new (sub m (pattern new m c.in_ok-to-2.«to».at))) q.tripled.level q.added in
+    subst (λ (u : Groupings). AddsOnly old u.levels (sub l (pattern u.levels l c.in_ok-row-2.row.0.at))) (sym c.keep_triple.ensures)
+    (subst (λ (e : Gid). AddsOnly old new (sub l (pattern new l e.at))) (sym c.in_ok-row-2.ensures.head) added)

@@ -2,7 +2,7 @@ use Rattle.std.proofs.Common.{◌≡◌, ℕ, ◌-◌, List, [], ◌∷◌, ◌+
 use Rattle.cf_model.specs.Diagrams.{pattern, exits}
 use Rattle.cf_model.specs.Renumbering.{IsCanon}
 use Rattle.cf_model.proofs.Canonicity.{pattern-dont_care, pattern-fork}
-use Rattle.cf_pair.specs.Products.{zip3}
+use Rattle.cf_table.specs.Triples.{zip3}
 use Rattle.cf_pair.proofs.Pairs.{canon_same, canon_two}
 use Rattle.cf_pair.proofs.Triples.{base_triples, all_zero, not_all_zero}
 use Rattle.cf_pair.proofs.tripling.triple_bases.Goals as goal

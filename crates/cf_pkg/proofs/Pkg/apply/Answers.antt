@@ -15,6 +15,7 @@ use Rattle.cf_pkg.specs.Jobs.{AreLevel, apply_value}
 use Rattle.cf_pkg.proofs.Valued.{Worked, worked_gives, worked_long, has_values, fault_exit, fault_least, first_of, err_same, values_read}
 use Rattle.cf_pkg.proofs.Works.{apply_worked, pairs_within}
 use Rattle.cf_pkg.proofs.Added.{pair_added}
+use Rattle.cf_pkg.proofs.Remembering.{sound_shown}
 use Rattle.cf_pkg.proofs.Pkg.apply.Goals as goal
 
 -- What is known once the pairs of the product and both lists of values were read.
@@ -120,3 +121,12 @@ returns-clause-overflow g c at e =
     fault_least u c.in_ok-head.head c.args.f.head.level words (apply_value p c.args.op.now.tree c.args.f c.args.g) w c.in-Err.fault
     (first_of c.apply_exits.result words c.in-Err.fault c.in-Err.is c.apply_exits.ensures.first)
     c.overflow.result c.overflow.ensures at (err_same c.overflow.result (OpFault.Overflow at) e)
+
+pub invariant_of-self : goal.invariant_of-self
+invariant_of-self g c = sound_shown c.args.self.now c.self.inside.table c.pair.new.table c.self.inside.values c.self.inside.memo.entries c.self.view_is c.law.ensures.good c.in_err-head.ensures.kept c.in_err-head.ensures.tuples c.self.invariant
+
+pub invariant_of-self-in-Ok : goal.invariant_of-self-in-Ok
+invariant_of-self-in-Ok g c = sound_shown c.args.self.now c.self.inside.table c.pair.new.table c.self.inside.values c.self.inside.memo.entries c.self.view_is c.law.ensures.good c.in_ok-head.ensures.kept c.in_ok-head.ensures.tuples c.self.invariant
+
+pub invariant_of-self-in-Err : goal.invariant_of-self-in-Err
+invariant_of-self-in-Err g c = sound_shown c.args.self.now c.self.inside.table c.pair.new.table c.self.inside.values c.self.inside.memo.entries c.self.view_is c.law.ensures.good c.in_ok-head.ensures.kept c.in_ok-head.ensures.tuples c.self.invariant

@@ -23,7 +23,7 @@ known c g h =
         exists = h.head;
         valued = h.valued;
         differ = subst (λ (q : Package). AllDiffer (values_of q g)) c.self.view_is (c.get.ensures.each g.vals.at [] within).differ;
-        fit = subst (λ (q : Package). All Fits (values_of q g)) c.self.view_is (c.self.invariant g.vals.at [] within);
+        fit = subst (λ (q : Package). All Fits (values_of q g)) c.self.view_is (c.self.invariant.fit g.vals.at [] within);
       };
     }
 

@@ -7,6 +7,7 @@ use Rattle.cf_pkg.specs.Jobs.{job_level, job_value, job_parts, HasValues}
 use Rattle.cf_pkg.proofs.Keeping.{keeps}
 use Rattle.cf_pkg.proofs.Valued.{Keeps-trans, has_values}
 use Rattle.cf_pkg.proofs.Making.{made_added}
+use Rattle.cf_pkg.proofs.Remembering.{sound_above}
 use Rattle.cf_pkg.proofs.Pkg.make.Goals as goal
 
 pub returns-in_err-g-clause-kept : goal.returns-in_err-g-clause-kept
@@ -43,3 +44,9 @@ returns-clause-restricted g c is =
     subst (λ (p : Package). AddsOnly p.groupings.levels q.groupings.levels (job_parts p job)) c.self.view_is
     (made_added before.groupings.levels u c.in_ok-g.ensures.good q c.in_ok-f.ensures.kept.groupings c.law-2.ensures.good f c.law-2.ensures.function (job_level job) (job_value before job) has
     (c.in_ok-g.ensures.restricted is) c.in_ok-f.ensures.added)
+
+pub invariant_of-self : goal.invariant_of-self
+invariant_of-self g c = sound_above c.self.inside.table c.cook.new.table c.self.inside.values c.self.inside.memo.entries c.law.ensures.good c.cook.ensures.kept c.cook.ensures.tuples c.self.invariant
+
+pub invariant_of-self-2 : goal.invariant_of-self-2
+invariant_of-self-2 g c = sound_above c.self.inside.table c.cook.new.table c.self.inside.values c.self.inside.memo.entries c.law.ensures.good c.cook.ensures.kept c.cook.ensures.tuples c.self.invariant

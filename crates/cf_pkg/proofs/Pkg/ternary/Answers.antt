@@ -6,7 +6,7 @@ use Rattle.cf_model.specs.declared.terms.Term.{Term}
 use Rattle.cf_table.specs.declared.Gid.{Gid}
 use Rattle.cf_table.specs.Groupings.{pattern_of}
 use Rattle.cf_build.specs.Assembling.{HasCanon, AddsOnly}
-use Rattle.cf_pair.specs.Products.{zip3}
+use Rattle.cf_table.specs.Triples.{zip3}
 use Rattle.cf_pkg.specs.declared.Func.{Func}
 use Rattle.cf_pkg.specs.declared.jobs.OpFault.{OpFault}
 use Rattle.cf_pkg.specs.Packages.{Package, Means, values_of, function_parts}
@@ -16,6 +16,7 @@ use Rattle.cf_pkg.specs.Jobs.{AreLevel, ternary_value}
 use Rattle.cf_pkg.proofs.Valued.{Worked, worked_gives, worked_long, has_values, fault_exit, fault_least, first_of, err_same, values_read}
 use Rattle.cf_pkg.proofs.Works.{ternary_worked, triples_within}
 use Rattle.cf_pkg.proofs.Added.{triple_added}
+use Rattle.cf_pkg.proofs.Remembering.{sound_shown}
 use Rattle.cf_pkg.proofs.Pkg.ternary.Goals as goal
 
 abbrev all_of : Package → Func → Func → Func → List (ℕ × ℕ × ℕ)
@@ -156,3 +157,12 @@ returns-clause-overflow g c at e =
     let w = worked p c.args.f c.args.g c.args.h u r triples us vs ws read c.args.op.now.tree in
     fault_least u r c.args.f.head.level words value w c.in-Err.fault (first_of c.ternary_exits.result words c.in-Err.fault c.in-Err.is c.ternary_exits.ensures.first)
     c.overflow.result c.overflow.ensures at (err_same c.overflow.result (OpFault.Overflow at) e)
+
+pub invariant_of-self : goal.invariant_of-self
+invariant_of-self g c = sound_shown c.args.self.now c.self.inside.table c.triple.new.table c.self.inside.values c.self.inside.memo.entries c.self.view_is c.law.ensures.good c.in_err-head.ensures.kept c.in_err-head.ensures.tuples c.self.invariant
+
+pub invariant_of-self-in-Ok : goal.invariant_of-self-in-Ok
+invariant_of-self-in-Ok g c = sound_shown c.args.self.now c.self.inside.table c.triple.new.table c.self.inside.values c.self.inside.memo.entries c.self.view_is c.law.ensures.good c.in_ok-head.ensures.kept c.in_ok-head.ensures.tuples c.self.invariant
+
+pub invariant_of-self-in-Err : goal.invariant_of-self-in-Err
+invariant_of-self-in-Err g c = sound_shown c.args.self.now c.self.inside.table c.triple.new.table c.self.inside.values c.self.inside.memo.entries c.self.view_is c.law.ensures.good c.in_ok-head.ensures.kept c.in_ok-head.ensures.tuples c.self.invariant

@@ -1,40 +1,36 @@
-use Rattle.std.proofs.Common.{◌≡◌, ◌++◌, ◌∷◌, [], length, sym, ap, subst, ◌∙◌, arith, Err}
-use Rattle.cf_reference.specs.declared.grammar.Call.{Call}
-use Rattle.cf_reference.specs.declared.grammar.Call.TheVariants.{Const}
+use Rattle.std.proofs.Common.{◌≡◌, suc, ◌++◌, ◌∷◌, [], length, refl, sym, ap, subst, ◌∙◌, arith, rules, Err}
+use Rattle.cf_reference.specs.declared.grammar.Kind.{Kind}
+use Rattle.cf_reference.specs.declared.grammar.Kind.TheVariants.{Expression}
+use Rattle.cf_reference.specs.Heads.{kind_at, takes}
 use Rattle.cf_reference.specs.Words.{words}
-use Rattle.cf_reference.specs.Trees.{takes}
+use Rattle.cf_reference.specs.Grammar.{lead}
 use Rattle.cf_script.specs.declared.expressions.Fault.TheVariants.{Malformed}
-use Rattle.cf_script.specs.Readings.{SpellsNoneInside}
-use Rattle.cf_script.proofs.CallFacts.{none-empty, none-inside, none-called, is-leaf, none-leaf, none-one, is-fold, none-fold, is-ite, none-ite, is-one, from-none, handed-on}
-use Rattle.cf_script.proofs.ListFacts.{front-one, ends-one, front-more, ends-more, front-whole, no-first, no-more, no-end}
+use Rattle.cf_script.specs.Arguments.{IsOf, gathered, IsArgument, SpellsNoArgument}
+use Rattle.cf_script.proofs.CallFacts.{none-empty, is-call, none-inside, none-called, is-leaf, none-leaf, argument-read, argument-word, none-argument, of-kinds, has-room, too-many, handed-on}
+use Rattle.cf_script.proofs.ListFacts.{front-none, ends-none, front-more, ends-more, front-whole, no-next, no-end, other-number, pushed-length}
 use Rattle.cf_script.proofs.expressions.+expressions.Goals as goal
-
-pub read_call-returns-in-Const-clause-only : goal.read_call-returns-in-Const-clause-only
-read_call-returns-in-Const-clause-only t c = λ e.
-    subst (λ (call : Call). SpellsNoneInside call (words c.args.text.now)) (sym c.in-Const.is)
-    (from-none c.read_const.result Malformed (SpellsNoneInside Const (words c.args.text.now)) c.ok_or.result c.ok_or.ensures.value e c.read_const.ensures.none)
-
-pub read_call-returns-in-One-clause-only : goal.read_call-returns-in-One-clause-only
-read_call-returns-in-One-clause-only t c = λ e. subst (λ (call : Call). SpellsNoneInside call (words c.args.text.now)) (sym c.in-One.is) (c.read_one.ensures.only e)
-
-pub read_call-returns-in-Fold-clause-only : goal.read_call-returns-in-Fold-clause-only
-read_call-returns-in-Fold-clause-only t c = λ e. subst (λ (call : Call). SpellsNoneInside call (words c.args.text.now)) (sym c.in-Fold.is) (c.read_fold.ensures.only e)
-
-pub read_call-returns-in-Ite-clause-only : goal.read_call-returns-in-Ite-clause-only
-read_call-returns-in-Ite-clause-only t c = λ e. subst (λ (call : Call). SpellsNoneInside call (words c.args.text.now)) (sym c.in-Ite.is) (c.read_ite.ensures.only e)
 
 pub read_expr-returns-in_default-clause-only : goal.read_expr-returns-in_default-clause-only
 read_expr-returns-in_default-clause-only t c = λ _. none-empty (words c.args.text.now) c.in_default.ensures.none
 
-pub read_expr-returns-in-Some-call_of-clause-only : goal.read_expr-returns-in-Some-call_of-clause-only
-read_expr-returns-in-Some-call_of-clause-only t c = λ e.
-    none-inside c.in-Some-call_of.call c.in-Some.word.now (words c.args.text.now) (words c.in-Some.rest.now) (words c.in-Some-after.inside.now)
-    c.in-Some.ensures.found c.in-Some-after.ensures.found c.in-Some-call_of.ensures (c.read_call.ensures.only e)
+pub read_expr-returns-in_err-args-in-Some-head_of-clause-only : goal.read_expr-returns-in_err-args-in-Some-head_of-clause-only
+read_expr-returns-in_err-args-in-Some-head_of-clause-only t c = λ e.
+    none-inside c.in-Some-head_of.head c.in-Some.word.now (words c.args.text.now) (words c.in-Some.rest.now) (words c.in-Some-after.inside.now)
+    c.in-Some.ensures.found c.in-Some-after.ensures.found c.in-Some-head_of.ensures
+    (c.in_err-args-in-Some-head_of.ensures.only (ap Err (sym (handed-on _ Malformed c.from_residual.result c.from_residual.ensures.1 e))))
 
-pub read_expr-returns-in-None-call_of-clause-only : goal.read_expr-returns-in-None-call_of-clause-only
-read_expr-returns-in-None-call_of-clause-only t c = λ _.
+pub read_expr-call-requires-clause-kinds : goal.read_expr-call-requires-clause-kinds
+read_expr-call-requires-clause-kinds t c = of-kinds c.in-Some-head_of.head _ c.in_ok-args-in-Some-head_of.ensures.found.number c.in_ok-args-in-Some-head_of.ensures.found.kinds
+
+pub read_expr-returns-in_ok-call-in-Some-head_of-clause-found : goal.read_expr-returns-in_ok-call-in-Some-head_of-clause-found
+read_expr-returns-in_ok-call-in-Some-head_of-clause-found t c =
+    is-call c.in-Some-head_of.head _ c.in_ok-call-in-Some-head_of.field-0 c.in-Some.word.now (words c.args.text.now) (words c.in-Some.rest.now) (words c.in-Some-after.inside.now) _
+    c.in-Some.ensures.found c.in-Some-after.ensures.found c.in-Some-head_of.ensures c.in_ok-args-in-Some-head_of.ensures.found c.in_ok-call-in-Some-head_of.ensures
+
+pub read_expr-returns-in-None-head_of-clause-only : goal.read_expr-returns-in-None-head_of-clause-only
+read_expr-returns-in-None-head_of-clause-only t c = λ _.
     none-called c.in-Some.word.now (words c.args.text.now) (words c.in-Some.rest.now) (words c.in-Some-after.inside.now)
-    c.in-Some.ensures.found c.in-Some-after.ensures.found c.in-None-call_of.ensures
+    c.in-Some.ensures.found c.in-Some-after.ensures.found c.in-None-head_of.ensures
 
 pub read_expr-returns-in-Some-leaf-clause-found : goal.read_expr-returns-in-Some-leaf-clause-found
 read_expr-returns-in-Some-leaf-clause-found t c =
@@ -44,65 +40,91 @@ pub read_expr-returns-in-None-leaf-clause-only : goal.read_expr-returns-in-None-
 read_expr-returns-in-None-leaf-clause-only t c = λ _.
     none-leaf c.in-Some.word.now (words c.args.text.now) (words c.in-Some.rest.now) c.in-Some.ensures.found c.in-None.ensures.none c.in-None-leaf.ensures.none
 
-pub read_one-returns-in-Some-clause-found : goal.read_one-returns-in-Some-clause-found
-read_one-returns-in-Some-clause-found t c =
-    is-one c.args.word c.in_ok-one-in-Some.field-0 c.in_ok-e.e (words c.args.text.now) (words c.in_ok-e.end.now) (words c.in-Some.rest.now) c.in_ok-one-in-Some.ensures c.in_ok-e.ensures.found c.in-Some.ensures.found
+pub read_argument-returns-in_err-e-clause-only : goal.read_argument-returns-in_err-e-clause-only
+read_argument-returns-in_err-e-clause-only t c = λ e.
+    let is : c.args.kind ≡ Expression = search rules in
+    none-argument c.args.kind (words c.args.text.now) is (c.in_err-e.ensures.only (ap Err (sym (handed-on _ Malformed c.from_residual.result c.from_residual.ensures.1 e))))
 
-pub read_one-returns-clause-only : goal.read_one-returns-clause-only
-read_one-returns-clause-only t c = λ _.
-    none-one c.args.word c.in_ok-e.e (words c.args.text.now) (words c.in_ok-e.end.now) c.in_ok-e.ensures.found c.in-None.ensures.none
+pub read_argument-returns-then-eq-clause-found : goal.read_argument-returns-then-eq-clause-found
+read_argument-returns-then-eq-clause-found t c =
+    let is : c.args.kind ≡ Expression = search rules in
+    argument-read c.args.kind c.in_ok-e.e (words c.args.text.now) (words c.in_ok-e.rest.now) is c.in_ok-e.ensures.found
 
-pub read_fold-returns-then-takes-clause-found : goal.read_fold-returns-then-takes-clause-found
-read_fold-returns-then-takes-clause-found t c =
-    is-fold c.args.word c.in_ok-es.es (words c.args.text.now) (words c.in_ok-es.rest.now) c.in_ok-es.ensures.found
-    (sym (c.takes.ensures ∙ ap (λ es. takes c.args.word (length es)) c.items.ensures) ∙ c.if-takes.true)
+pub read_argument-returns-in-Some-word_argument-clause-found : goal.read_argument-returns-in-Some-word_argument-clause-found
+read_argument-returns-in-Some-word_argument-clause-found t c =
+    argument-word c.args.kind c.in-Some-word_argument.argument c.in-Some.word.now (words c.args.text.now) (words c.in-Some.rest.now) c.in-Some.ensures.found c.in-Some-word_argument.ensures.found
 
-pub read_fold-returns-clause-only : goal.read_fold-returns-clause-only
-read_fold-returns-clause-only t c = λ _.
-    none-fold c.args.word c.in_ok-es.es.items.items (words c.args.text.now) (words c.in_ok-es.rest.now) c.in_ok-es.ensures.found
-    (sym (c.takes.ensures ∙ ap (λ es. takes c.args.word (length es)) c.items.ensures) ∙ c.if-takes.false)
+pub gather-returns-in_err-first-clause-only : goal.gather-returns-in_err-first-clause-only
+gather-returns-in_err-first-clause-only t c = λ e.
+    no-next c.args.head 0 (words c.args.text.now) (words c.args.text.now) (words c.args.text.now) (ends-none c.args.head (words c.args.text.now)) refl
+    (subst (λ (k : Kind). SpellsNoArgument k (words c.args.text.now)) c.kind_at.ensures (c.in_err-first.ensures.only (ap Err (sym (handed-on _ Malformed c.from_residual.result c.from_residual.ensures.1 e)))))
 
-pub read_ite-returns-then-items-eq3-clause-found : goal.read_ite-returns-then-items-eq3-clause-found
-read_ite-returns-then-items-eq3-clause-found t c =
-    is-ite c.in_ok-es.es (words c.args.text.now) (words c.in_ok-es.rest.now) c.in_ok-es.ensures.found (sym (ap length c.items.ensures) ∙ c.if-items-eq3.true)
-
-pub read_ite-returns-clause-only : goal.read_ite-returns-clause-only
-read_ite-returns-clause-only t c = λ _.
-    none-ite c.in_ok-es.es.items.items (words c.args.text.now) (words c.in_ok-es.rest.now) c.in_ok-es.ensures.found (λ three. c.if-items-eq3.false (ap length c.items.ensures ∙ three))
-
-pub read_list-returns-in_err-e-clause-only : goal.read_list-returns-in_err-e-clause-only
-read_list-returns-in_err-e-clause-only t c = λ e.
-    no-first (words c.args.text.now) (c.in_err-e.ensures.only (ap Err (sym (handed-on _ Malformed c.from_residual.result c.from_residual.ensures.1 e))))
-
-pub read_list-loop-more-init : goal.read_list-loop-more-init
-read_list-loop-more-init t c =
-    let items : c.push.new.self.items.items ≡ c.in_ok-e.e ∷ [] = c.in_ok-push.ensures.ok ∙ ap (λ xs. xs ++ c.in_ok-e.e ∷ []) c.new-es.ensures in
+pub gather-loop-more-init : goal.gather-loop-more-init
+gather-loop-more-init t c =
+    let all = words c.args.text.now in
+    let end = words c.in_ok-first.end.now in
+    let is = c.in_ok-push.ensures.pushed ∙ ap (λ xs. xs ++ c.in_ok-first.first ∷ []) c.requires.none in
+    let read = subst (λ (k : Kind). IsArgument k c.in_ok-first.first all end) c.kind_at.ensures c.in_ok-first.ensures.found in
     record {
-      shorter = c.in_ok-e.ensures.shorter;
-      front = front-one c.push.new.self.items.items c.in_ok-e.e (words c.args.text.now) (words c.in_ok-e.end.now) items c.in_ok-e.ensures.found;
-      ends = ends-one c.in_ok-e.e (words c.args.text.now) (words c.in_ok-e.end.now) c.in_ok-e.ensures.found;
+      shorter = c.in_ok-first.ensures.shorter;
+      front = front-more c.args.head [] _ c.in_ok-first.first all all all end is (front-none c.args.head [] all refl) refl read;
+      shape = c.in_ok-push.ensures.shape c.args.head c.requires.shape;
+      ends = (0, ap length is, ends-more c.args.head 0 c.in_ok-first.first all all all end (ends-none c.args.head all) refl read);
     }
 
-pub read_list-loop-more-preserved : goal.read_list-loop-more-preserved
-read_list-loop-more-preserved t c =
+pub gather-returns-then-is_full-clause-only : goal.gather-returns-then-is_full-clause-only
+gather-returns-then-is_full-clause-only t c = λ e.
     let kept = c.loop-more.invariant in
+    too-many c.args.head c.loop-more.args kept.ends.0 (words c.args.text.now) (words c.loop-more.end.now) (words c.in-Some.more.now) kept.shape
+    (sym c.is_full.ensures ∙ c.if-is_full.true) kept.ends.1 kept.ends.2 c.in-Some.ensures.found
+
+pub gather-push-requires-in-Some : goal.gather-push-requires-in-Some
+gather-push-requires-in-Some t c =
+    let kind = c.kind_at-in-Some.ensures ∙ ap (kind_at c.args.head) c.len.ensures in
+    has-room c.args.head c.loop-more.args c.in_ok-argument.argument (length (gathered c.loop-more.args)) c.loop-more.invariant.shape
+    (sym c.is_full.ensures ∙ c.if-is_full.false) (subst (λ (k : Kind). IsOf k c.in_ok-argument.argument) kind c.in_ok-argument.ensures.found.kinds)
+
+pub gather-returns-in_err-argument-clause-only : goal.gather-returns-in_err-argument-clause-only
+gather-returns-in_err-argument-clause-only t c = λ e.
+    let kept = c.loop-more.invariant in
+    let kind = c.kind_at-in-Some.ensures ∙ ap (kind_at c.args.head) (c.len.ensures ∙ kept.ends.1) in
+    no-next c.args.head (suc kept.ends.0) (words c.args.text.now) (words c.loop-more.end.now) (words c.in-Some.more.now) kept.ends.2 c.in-Some.ensures.found
+    (subst (λ (k : Kind). SpellsNoArgument k (words c.in-Some.more.now)) kind
+    (c.in_err-argument.ensures.only (ap Err (sym (handed-on _ Malformed c.from_residual-in_err-argument.result c.from_residual-in_err-argument.ensures.1 e)))))
+
+pub gather-loop-more-preserved : goal.gather-loop-more-preserved
+gather-loop-more-preserved t c =
+    let kept = c.loop-more.invariant in
+    let all = words c.args.text.now in
+    let end = words c.loop-more.end.now in
+    let after = words c.in-Some.more.now in
+    let rest = words c.in_ok-argument.rest.now in
+    let kind = c.kind_at-in-Some.ensures ∙ ap (kind_at c.args.head) (c.len.ensures) in
+    let read = subst (λ (k : Kind). IsArgument k c.in_ok-argument.argument after rest) kind c.in_ok-argument.ensures.found in
     record {
-      shorter = omega (arith, kept.shorter, c.in_ok-e-2.ensures.shorter, c.in-Some.ensures.shorter);
-      front = front-more c.loop-more.es.items.items c.push-in-Some.new.self.items.items c.in_ok-e-2.e (words c.args.text.now) (words c.loop-more.end.now) (words c.in-Some.more.now) (words c.in_ok-e-2.rest.now)
-          c.in_ok-push-2.ensures.ok kept.front c.in-Some.ensures.found c.in_ok-e-2.ensures.found;
-      ends = ends-more c.in_ok-e-2.e (words c.args.text.now) (words c.loop-more.end.now) (words c.in-Some.more.now) (words c.in_ok-e-2.rest.now)
-          kept.ends c.in-Some.ensures.found c.in_ok-e-2.ensures.found;
+      shorter = omega (arith, kept.shorter, c.in_ok-argument.ensures.shorter, c.in-Some.ensures.shorter);
+      front = front-more c.args.head (gathered c.loop-more.args) _ c.in_ok-argument.argument all end after rest c.in_ok-push-2.ensures.pushed kept.front
+          (subst (λ n. end ≡ lead n ++ after) (sym kept.ends.1) c.in-Some.ensures.found) read;
+      shape = c.in_ok-push-2.ensures.shape c.args.head kept.shape;
+      ends = (
+        suc kept.ends.0,
+        pushed-length kept.ends.0 (gathered c.loop-more.args) _ c.in_ok-argument.argument c.in_ok-push-2.ensures.pushed kept.ends.1,
+        ends-more c.args.head (suc kept.ends.0) c.in_ok-argument.argument all end after rest kept.ends.2 c.in-Some.ensures.found
+            (subst (λ n. IsArgument (kind_at c.args.head n) c.in_ok-argument.argument after rest) kept.ends.1 read),
+      );
     }
 
-pub read_list-returns-in_err-e-2-clause-only : goal.read_list-returns-in_err-e-2-clause-only
-read_list-returns-in_err-e-2-clause-only t c = λ e.
-    no-more (words c.args.text.now) (words c.loop-more.end.now) (words c.in-Some.more.now) c.loop-more.invariant.ends c.in-Some.ensures.found
-    (c.in_err-e-2.ensures.only (ap Err (sym (handed-on _ Malformed c.from_residual-in_err-e-2.result c.from_residual-in_err-e-2.ensures.1 e))))
+pub gather-returns-then-takes-clause-found : goal.gather-returns-then-takes-clause-found
+gather-returns-then-takes-clause-found t c =
+    front-whole c.args.head c.loop-more.invariant.ends.0 (gathered c.loop-more.args) (words c.args.text.now) (words c.loop-more.end.now) (words c.in-Some-after.rest.now)
+    c.loop-more.invariant.ends.1 c.loop-more.invariant.front c.in-Some-after.ensures.found
+    (sym (c.takes.ensures ∙ ap (takes c.args.head) (c.len-in-Some-after.ensures)) ∙ c.if-takes.true)
 
-pub read_list-returns-in-Some-after-clause-found : goal.read_list-returns-in-Some-after-clause-found
-read_list-returns-in-Some-after-clause-found t c =
-    front-whole c.loop-more.es.items.items (words c.args.text.now) (words c.loop-more.end.now) (words c.in-Some-after.rest.now) c.loop-more.invariant.front c.in-Some-after.ensures.found
+pub gather-returns-else-takes-clause-only : goal.gather-returns-else-takes-clause-only
+gather-returns-else-takes-clause-only t c = λ e.
+    other-number c.args.head c.loop-more.invariant.ends.0 (words c.args.text.now) (words c.loop-more.end.now) c.loop-more.invariant.ends.2 c.in_default.ensures.none
+    (sym (c.takes.ensures ∙ ap (takes c.args.head) (c.len-in-Some-after.ensures ∙ c.loop-more.invariant.ends.1)) ∙ c.if-takes.false)
 
-pub read_list-returns-clause-only : goal.read_list-returns-clause-only
-read_list-returns-clause-only t c = λ _.
-    no-end (words c.args.text.now) (words c.loop-more.end.now) c.loop-more.invariant.ends c.in_default.ensures.none c.in-None.ensures.none
+pub gather-returns-in-None-clause-only : goal.gather-returns-in-None-clause-only
+gather-returns-in-None-clause-only t c = λ e.
+    no-end c.args.head c.loop-more.invariant.ends.0 (words c.args.text.now) (words c.loop-more.end.now) c.loop-more.invariant.ends.2 c.in_default.ensures.none c.in-None.ensures.none

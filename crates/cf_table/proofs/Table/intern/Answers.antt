@@ -9,6 +9,7 @@ use Rattle.cf_table.specs.declared.level.PackedConnection.{PackedConnection}
 use Rattle.cf_table.specs.Groupings.{Groupings, LacksNode, IsConnectionOver, connection_of, node_with, IsInterned}
 use Rattle.cf_table.specs.Kept.{Kept, Holds, ids, packed, kept_of, shown_levels, shown_level, shown_node, node_by, IsPackedOver}
 use Rattle.cf_table.proofs.Reductions.{reductions_kept}
+use Rattle.cf_table.proofs.Triples.{triples_kept}
 use Rattle.cf_table.proofs.Products.{products_kept, shown_kept}
 use Rattle.cf_table.proofs.Shown.{interned, new_node, shown_at, packed_node, all_packed, still_new}
 use Rattle.cf_table.proofs.Told.{none_of}
@@ -65,6 +66,7 @@ pub invariant_of-self-2 : goal.invariant_of-self-2
 invariant_of-self-2 c = record {
   groupings = (all c).0;
   products = products_kept (before c) (now c) c.self.invariant.groupings.good (grown c) c.self.inside.products.entries c.self.invariant.products;
+  triples = triples_kept (before c) (now c) c.self.invariant.groupings.good (grown c) c.self.inside.triples.entries c.self.invariant.triples;
   reductions = reductions_kept (before c) (now c) c.self.invariant.groupings.good (grown c) c.self.inside.reductions.entries c.self.invariant.reductions;
 }
 

@@ -1,7 +1,7 @@
 use Rattle.std.proofs.Common.{◌∙◌, ap, sym, subst}
 use Rattle.cf_table.specs.Groupings.{Groupings}
 use Rattle.cf_model.specs.Diagrams.{Levels}
-use Rattle.cf_table.specs.Kept.{shown_products, HoldsProducts, HoldsReductions}
+use Rattle.cf_table.specs.Kept.{shown_products, HoldsProducts, Each, KeepsTriple, KeepsReduction}
 use Rattle.cf_table.proofs.Shown.{shown_by_longer, holds_longer}
 use Rattle.cf_table.proofs.Table.intern_tuple.Goals as goal
 
@@ -9,7 +9,8 @@ pub invariant_of-self : goal.invariant_of-self
 invariant_of-self c = record {
   groupings = holds_longer c.self.inside.levels c.self.inside.book c.intern.new.self c.self.invariant.groupings c.intern.ensures.kept c.intern.ensures.differ;
   products = subst (λ (t : Levels). HoldsProducts t c.self.inside.products.entries) (sym (shown_by_longer c.self.inside.levels c.self.inside.book c.intern.new.self c.self.invariant.groupings c.intern.ensures.kept)) c.self.invariant.products;
-  reductions = subst (λ (t : Levels). HoldsReductions t c.self.inside.reductions.entries) (sym (shown_by_longer c.self.inside.levels c.self.inside.book c.intern.new.self c.self.invariant.groupings c.intern.ensures.kept)) c.self.invariant.reductions;
+  triples = subst (λ (t : Levels). Each (KeepsTriple t) c.self.inside.triples.entries) (sym (shown_by_longer c.self.inside.levels c.self.inside.book c.intern.new.self c.self.invariant.groupings c.intern.ensures.kept)) c.self.invariant.triples;
+  reductions = subst (λ (t : Levels). Each (KeepsReduction t) c.self.inside.reductions.entries) (sym (shown_by_longer c.self.inside.levels c.self.inside.book c.intern.new.self c.self.invariant.groupings c.intern.ensures.kept)) c.self.invariant.reductions;
 }
 
 pub returns-clause-levels : goal.returns-clause-levels

@@ -2,8 +2,9 @@ use Rattle.std.proofs.Common.{List, ℕ, subst, sym}
 use Rattle.cf_table.specs.declared.Gid.{Gid}
 use Rattle.cf_table.specs.declared.Classed.{Classed}
 use Rattle.cf_table.specs.Groupings.{Groupings, IsReduction}
-use Rattle.cf_table.specs.Kept.{shown_levels, HoldsReductions}
-use Rattle.cf_table.proofs.Reductions.{inserted}
+use Rattle.cf_table.specs.Kept.{shown_levels, Each, KeepsReduction}
+use Rattle.cf_table.proofs.Entries.{inserted}
+use Rattle.cf_table.proofs.Reductions.{same, follows}
 use Rattle.cf_table.proofs.Table.keep_reduction.Goals as goal
 
 pub invariant_of-self-2 : goal.invariant_of-self-2
@@ -12,7 +13,8 @@ invariant_of-self-2 c =
     record {
       groupings = c.self.invariant.groupings;
       products = c.self.invariant.products;
-      reductions = subst (λ (es : List (Classed × Gid)). HoldsReductions t es) (sym c.in_ok-insert.ensures.entries)
-          (inserted t c.self.inside.reductions.entries (record { grouping = c.args.g; classes = c.in_ok-classes.classes }) c.args.h c.self.invariant.reductions
+      triples = c.self.invariant.triples;
+      reductions = subst (λ (es : List (Classed × Gid)). Each (KeepsReduction t) es) (sym c.in_ok-insert.ensures.entries)
+          (inserted same (KeepsReduction t) (follows t) c.self.inside.reductions.entries c.self.invariant.reductions (record { grouping = c.args.g; classes = c.in_ok-classes.classes }) c.args.h
           (subst (λ (cs : List ℕ). IsReduction t c.args.g cs c.args.h) (sym c.in_ok-classes.ensures.ok) (subst (λ (t : Groupings). IsReduction t.levels c.args.g c.args.classes.now c.args.h) (sym c.self.view_is) c.requires)));
     }

@@ -1,245 +1,208 @@
-use Rattle.std.proofs.Common.{rules, arith, ◌+◌, ◌<◌, ◌≤◌, ◌≡◌, suc, length, drop, ap, sym, subst, ◌∙◌, true, None, IfOk, IfErr}
-use Rattle.std.proofs.lemmas.Result.{IfErr-weaker}
-use Rattle.cf_reference.specs.Trees.{Tree, Trees, depth, depths, IsFormed, Fold, Ite}
+use Rattle.std.proofs.Common.{rules, arith, ◌+◌, ◌<◌, ◌≤◌, ◌≡◌, suc, length, drop, ap, sym, subst, ◌∙◌, refl, None}
+use mir.Val.{SFits}
+use Rattle.std.specs.Int.{w128}
+use Rattle.std.proofs.lemmas.Int.{to_z-of_z}
+use Rattle.std.proofs.lemmas.Option.{none-some}
+use Rattle.std.proofs.lemmas.Result.{IfOk-weaker, IfErr-weaker}
+use Rattle.cf_reference.specs.Trees.{Tree, Arguments, Call, depth, depths, IsFormed}
+use Rattle.cf_reference.specs.Trees as tree
 use Rattle.cf_reference.specs.States.{State}
-use Rattle.cf_reference.specs.Expressions.{walk, levels, are_equal}
-use Rattle.cf_reference.specs.Failures.{over}
+use Rattle.cf_reference.specs.Expressions.{walk, walk_atom, meant_atom}
+use Rattle.cf_reference.proofs.WalkLaws.{walk-Call-arguments}
+use Rattle.cf_script.specs.Vars.{atom_of}
 use Rattle.cf_script.specs.Views.{tree_of, listed}
+use Rattle.cf_session.specs.Arguments.{arguments_of}
+use Rattle.cf_session.specs.declared.values.Value.TheVariants as value
 use Rattle.cf_session.specs.Sessions.{state_of}
-use Rattle.cf_session.specs.Building.{Builds, IsFaultOf}
-use Rattle.cf_session.proofs.Growth.{grown_on}
-use Rattle.cf_session.proofs.Folds.{first_fails, next_fails, next_level, step_fails, folding_step}
-use Rattle.cf_session.proofs.Choices.{three, second_level, third_level, choice_built, choice_fails, first_of_three_fails, second_of_three_fails, third_of_three_fails}
-use Rattle.cf_session.proofs.Leaves.{if_both}
-use Rattle.cf_session.proofs.Listed.{fold_read, ite_read, fold_long, ite_long, item_formed, item_walked, item_shallow, later, later_shallow, first_and_later}
-use Rattle.cf_session.proofs.Turns.{begins, next, next_in_order, turned, counted, ends, chosen_of, three_from, three_more, three_listed}
-use Rattle.cf_session.proofs.Walked.{walked_one, walked_fold, walked_ite}
-use Rattle.cf_session.proofs.Arguments.{one_built, one_fails, one_argument}
+use Rattle.cf_session.specs.Building.{Grows, Builds, IsFaultOf}
+use Rattle.cf_session.proofs.Growth.{grown_on, grown_same}
+use Rattle.cf_session.proofs.Nesting.{pair_owned, pair_kinds, next_ruled, first_fails, next_fails, step_fails, nesting_step}
+use Rattle.cf_session.proofs.Gathering.{Gathered, gathered-none, gathered-as, next-formed, next-walked, next-placed, next-shallow, next-fails, next-one, next-atom, all-of, all-ruled, call-built, call-fails}
+use Rattle.cf_session.proofs.Listed.{nested_long, item_formed, item_walked, item_shallow, later, later_shallow, first_and_later}
+use Rattle.cf_session.proofs.Turns.{begins, next, next_in_order, turned, counted, ends}
+use Rattle.cf_session.proofs.session.Session.+evaluate.Goals.{evaluate_call-in-Expr+in-Ok, evaluate_call-in-Var+in-Ok-position, evaluate_call-in-Number}
 use Rattle.cf_session.proofs.session.Session.+evaluate.Goals as goal
 
-pub evaluate-evaluate_fold-requires : goal.evaluate-evaluate_fold-requires
-evaluate-evaluate_fold-requires t c =
-    let tree : tree_of c.args.expr.now ≡ Fold c.in-Fold.word (listed c.items.result.now) = fold_read c.args.expr.now c.in-Fold.word c.in-Fold.es c.items.result.now c.in-Fold.is c.items.ensures in
-    let deeper : depth (tree_of c.args.expr.now) ≡ depths (listed c.items.result.now) + 1 = ap depth tree in
-    let formed : IsFormed (Fold c.in-Fold.word (listed c.items.result.now)) = subst (λ (u : Tree). IsFormed u) tree c.requires.formed in
-    let walked : walk (state_of c.args.self.now) (Fold c.in-Fold.word (listed c.items.result.now)) ≡ None = subst (λ (u : Tree). walk (state_of c.args.self.now) u ≡ None) tree c.requires.walked in
+pub evaluate_call-loop-place-init : goal.evaluate_call-loop-place-init
+evaluate_call-loop-place-init t c =
+    let s = state_of c.args.self.now in
+    let all = arguments_of (tree_of c.args.expr.now) in
+    record {
+      gathered = gathered-none s c.args.head all c.args.self.now.pkg c.new-args.result.items c.new-args.ensures.items
+          (walk-Call-arguments s c.args.head all (subst (λ (u : Tree). walk s u ≡ None) c.requires.is_call c.requires.walked)) (subst (λ (u : Tree). IsFormed u) c.requires.is_call c.requires.formed).1;
+      grows = grown_same c.args.self.now;
+    }
+
+pub evaluate_call-evaluate-requires : goal.evaluate_call-evaluate-requires
+evaluate_call-evaluate-requires t c =
+    let s = state_of c.args.self.now in
+    let all = arguments_of (tree_of c.args.expr.now) in
+    let h = c.loop-place.invariant.gathered in
+    let formed : IsFormed (tree_of c.in-Expr.e.now) = next-formed s c.args.head all c.loop-place.self.pkg c.loop-place.args.items c.loop-place.place (tree_of c.in-Expr.e.now) h c.in-Expr.ensures in
+    let walked : walk (state_of c.loop-place.self) (tree_of c.in-Expr.e.now) ≡ None = subst (λ (u : State). walk u (tree_of c.in-Expr.e.now) ≡ None) (sym c.loop-place.invariant.grows.state)
+    (next-walked s c.args.head all c.loop-place.self.pkg c.loop-place.args.items c.loop-place.place (tree_of c.in-Expr.e.now) h c.in-Expr.ensures) in
+    let shallow : depth (tree_of c.in-Expr.e.now) ≤ depths (arguments_of (tree_of c.args.expr.now)) = next-shallow all c.loop-place.place (tree_of c.in-Expr.e.now) c.in-Expr.ensures in
+    let deeper : depth (tree_of c.args.expr.now) ≡ depths (arguments_of (tree_of c.args.expr.now)) + 1 = ap depth c.requires.is_call in
     search (rules, arith)
 
-pub evaluate-evaluate_choice-requires : goal.evaluate-evaluate_choice-requires
-evaluate-evaluate_choice-requires t c =
-    let tree : tree_of c.args.expr.now ≡ Ite (listed c.items-in-Ite.result.now) = ite_read c.args.expr.now c.in-Ite.es c.items-in-Ite.result.now c.in-Ite.is c.items-in-Ite.ensures in
-    let deeper : depth (tree_of c.args.expr.now) ≡ depths (listed c.items-in-Ite.result.now) + 1 = ap depth tree in
-    let formed : IsFormed (Ite (listed c.items-in-Ite.result.now)) = subst (λ (u : Tree). IsFormed u) tree c.requires.formed in
-    let walked : walk (state_of c.args.self.now) (Ite (listed c.items-in-Ite.result.now)) ≡ None = subst (λ (u : Tree). walk (state_of c.args.self.now) u ≡ None) tree c.requires.walked in
-    search (rules, arith)
+pub evaluate_call-returns-in-Err-clause-fault : goal.evaluate_call-returns-in-Err-clause-fault
+evaluate_call-returns-in-Err-clause-fault t c =
+    let s = state_of c.args.self.now in
+    subst (λ (u : Tree). IsFaultOf s u c.in-Err.fault) (sym c.requires.is_call)
+    (next-fails s c.args.head (arguments_of (tree_of c.args.expr.now)) c.loop-place.self.pkg c.loop-place.args.items c.loop-place.place (tree_of c.in-Expr.e.now) c.requires.one c.loop-place.invariant.gathered c.in-Expr.ensures c.in-Err.fault
+    (subst (λ (u : State). IsFaultOf u (tree_of c.in-Expr.e.now) c.in-Err.fault) c.loop-place.invariant.grows.state c.in-Err.ensures.fault))
 
-pub evaluate-returns-in-Fold-clause-built : goal.evaluate-returns-in-Fold-clause-built
-evaluate-returns-in-Fold-clause-built t c =
-    subst (λ (u : Tree). IfOk c.evaluate_fold.result (λ f. Builds (state_of c.args.self.now) u c.evaluate_fold.new.self.pkg f))
-    (sym (fold_read c.args.expr.now c.in-Fold.word c.in-Fold.es c.items.result.now c.in-Fold.is c.items.ensures)) c.evaluate_fold.ensures.built
+pub evaluate_call-returns-in-Err-position-clause-fault :
+    goal.evaluate_call-returns-in-Err-position-clause-fault
+evaluate_call-returns-in-Err-position-clause-fault t c =
+    absurd (none-some _
+    (sym (next-placed (state_of c.args.self.now) c.args.head (arguments_of (tree_of c.args.expr.now)) c.loop-place.self.pkg c.loop-place.args.items c.loop-place.place (atom_of c.in-Var.var) c.loop-place.invariant.gathered c.in-Var.ensures)
+    ∙ ap (λ u. walk_atom u (atom_of c.in-Var.var)) (sym c.loop-place.invariant.grows.state) ∙ c.in-Err-position.ensures.refused))
 
-pub evaluate-returns-in-Fold-clause-fault : goal.evaluate-returns-in-Fold-clause-fault
-evaluate-returns-in-Fold-clause-fault t c =
-    subst (λ (u : Tree). IfErr c.evaluate_fold.result (IsFaultOf (state_of c.args.self.now) u))
-    (sym (fold_read c.args.expr.now c.in-Fold.word c.in-Fold.es c.items.result.now c.in-Fold.is c.items.ensures)) c.evaluate_fold.ensures.fault
+pub evaluate_call-loop-place-preserved : goal.evaluate_call-loop-place-preserved
+evaluate_call-loop-place-preserved t c =
+    let s = state_of c.args.self.now in
+    let all = arguments_of (tree_of c.args.expr.now) in
+    let before = c.loop-place.self in
+    let h = c.loop-place.invariant.gathered in
+    let grown = c.loop-place.invariant.grows in
+    let items = c.loop-place.args.items in
+    let now = c.match-argument.self in
+    let v = c.match-argument.value in
+    let next : Gathered s c.args.head all now.pkg c.push.new.args.items (c.loop-place.place + 1) × Grows c.args.self.now now = elim c.match-argument.branch [
+      | evaluate_call-in-Expr+in-Ok w ↦
+          next-one s c.args.head all c.args.self.now before w.evaluate.new.self now items c.push.new.args.items c.loop-place.place (tree_of w.in-Expr.e.now) w.in-Ok.f v c.requires.one
+          h w.in-Expr.ensures grown.state grown w.evaluate.ensures.grows w.in-Ok.ensures.built w.self-is c.in_ok-push.ensures w.value-is
+      | evaluate_call-in-Var+in-Ok-position w ↦
+          (let fits : SFits w128 w.in-Ok-position.i = search rules in
+          next-atom s c.args.head all c.args.self.now before now items c.push.new.args.items c.loop-place.place (atom_of w.in-Var.var) v (value.Position w.in-Ok-position.i) c.requires.one
+          h w.in-Var.ensures tt (ap (λ u. meant_atom u (atom_of w.in-Var.var)) (sym grown.state) ∙ w.in-Ok-position.ensures.position.is_it) grown w.self-is c.in_ok-push.ensures (w.value-is ∙ ap value.Position (to_z-of_z w128 w.in-Ok-position.i fits)))
+      | evaluate_call-in-Number w ↦
+          (let fits : SFits w128 w.in-Number.n = search rules in
+          next-atom s c.args.head all c.args.self.now before now items c.push.new.args.items c.loop-place.place (tree.Number w.in-Number.n) v (value.Number w.in-Number.n) c.requires.one
+          h w.in-Number.ensures tt refl grown w.self-is c.in_ok-push.ensures (w.value-is ∙ ap value.Number (to_z-of_z w128 w.in-Number.n fits)))
+    ] in
+    record { gathered = next.0; grows = next.1 }
 
-pub evaluate-returns-in-Ite-clause-built : goal.evaluate-returns-in-Ite-clause-built
-evaluate-returns-in-Ite-clause-built t c =
-    subst (λ (u : Tree). IfOk c.evaluate_choice.result (λ f. Builds (state_of c.args.self.now) u c.evaluate_choice.new.self.pkg f))
-    (sym (ite_read c.args.expr.now c.in-Ite.es c.items-in-Ite.result.now c.in-Ite.is c.items-in-Ite.ensures)) c.evaluate_choice.ensures.built
+pub evaluate_call-call-requires-clause-kinds : goal.evaluate_call-call-requires-clause-kinds
+evaluate_call-call-requires-clause-kinds t c =
+    let s = state_of c.args.self.now in
+    let all = arguments_of (tree_of c.args.expr.now) in
+    let h = gathered-as s c.args.head all c.loop-place.self.pkg c.loop-place.args.items c.deref.result.now c.loop-place.place c.deref.ensures.value c.loop-place.invariant.gathered in
+    all-of s c.args.head all c.loop-place.self.pkg c.deref.result.now c.loop-place.place h
+    (omega (arith, c.loop-place-test.false, c.loop-place.auto.place-end, c.arity-place-end.ensures)) (subst (λ (u : Tree). IsFormed u) c.requires.is_call c.requires.formed)
 
-pub evaluate-returns-in-Ite-clause-fault : goal.evaluate-returns-in-Ite-clause-fault
-evaluate-returns-in-Ite-clause-fault t c =
-    subst (λ (u : Tree). IfErr c.evaluate_choice.result (IsFaultOf (state_of c.args.self.now) u))
-    (sym (ite_read c.args.expr.now c.in-Ite.es c.items-in-Ite.result.now c.in-Ite.is c.items-in-Ite.ensures)) c.evaluate_choice.ensures.fault
+pub evaluate_call-call-requires-clause-ruled : goal.evaluate_call-call-requires-clause-ruled
+evaluate_call-call-requires-clause-ruled t c =
+    let s = state_of c.args.self.now in
+    let all = arguments_of (tree_of c.args.expr.now) in
+    let h = gathered-as s c.args.head all c.loop-place.self.pkg c.loop-place.args.items c.deref.result.now c.loop-place.place c.deref.ensures.value c.loop-place.invariant.gathered in
+    all-ruled s c.args.head all c.loop-place.self.pkg c.deref.result.now c.loop-place.place h
+    (omega (arith, c.loop-place-test.false, c.loop-place.auto.place-end, c.arity-place-end.ensures)) (subst (λ (u : Tree). walk s u ≡ None) c.requires.is_call c.requires.walked)
 
-pub evaluate_choice-evaluate-requires : goal.evaluate_choice-evaluate-requires
-evaluate_choice-evaluate-requires t c =
-    let long : length c.args.es.now ≡ 3 = ite_long c.args.es.now c.requires.formed.0 in
-    let within : 0 < length c.args.es.now = omega (arith, long) in
-    let formed : IsFormed (tree_of c.index-es-0.result) = item_formed c.args.es.now 0 c.index-es-0.result c.index-es-0.is within c.requires.formed.1 in
-    let walked : walk (state_of c.args.self.now) (tree_of c.index-es-0.result) ≡ None = item_walked (state_of c.args.self.now) c.args.es.now 0 c.index-es-0.result c.index-es-0.is within (walked_ite (state_of c.args.self.now) (listed c.args.es.now) c.requires.walked).0 in
-    let shallow : depth (tree_of c.index-es-0.result) ≤ depths (listed c.args.es.now) = item_shallow c.args.es.now 0 c.index-es-0.result c.index-es-0.is within in
-    search (rules, arith)
+pub evaluate_call-returns-clause-built : goal.evaluate_call-returns-clause-built
+evaluate_call-returns-clause-built t c =
+    let s = state_of c.args.self.now in
+    let all = arguments_of (tree_of c.args.expr.now) in
+    let h = gathered-as s c.args.head all c.loop-place.self.pkg c.loop-place.args.items c.deref.result.now c.loop-place.place c.deref.ensures.value c.loop-place.invariant.gathered in
+    IfOk-weaker c.call.result _ _
+    (λ f k. subst (λ (u : Tree). Builds s u c.call.new.self.pkg f) (sym c.requires.is_call)
+    (call-built s c.args.head all c.loop-place.self.pkg c.call.new.self.pkg c.deref.result.now c.loop-place.place f h
+    (omega (arith, c.loop-place-test.false, c.loop-place.auto.place-end, c.arity-place-end.ensures)) k))
+    c.call.ensures.calls
 
-pub evaluate_choice-returns-in-Err-clause-fault : goal.evaluate_choice-returns-in-Err-clause-fault
-evaluate_choice-returns-in-Err-clause-fault t c =
-    let others = three_from c.args.es.now c.index-es-0.result (ite_long c.args.es.now c.requires.formed.0) c.index-es-0.is in
-    subst (λ (es : Trees). IsFaultOf (state_of c.args.self.now) (Ite es) c.in-Err.fault) (sym others.is)
-    (first_of_three_fails (state_of c.args.self.now) (tree_of c.index-es-0.result) others.second others.third c.in-Err.fault c.in-Err.ensures.fault)
+pub evaluate_call-returns-clause-fault : goal.evaluate_call-returns-clause-fault
+evaluate_call-returns-clause-fault t c =
+    let s = state_of c.args.self.now in
+    let all = arguments_of (tree_of c.args.expr.now) in
+    let h = gathered-as s c.args.head all c.loop-place.self.pkg c.loop-place.args.items c.deref.result.now c.loop-place.place c.deref.ensures.value c.loop-place.invariant.gathered in
+    IfErr-weaker c.call.result _ _
+    (λ fault k. subst (λ (u : Tree). IsFaultOf s u fault) (sym c.requires.is_call)
+    (call-fails s c.args.head all c.loop-place.self.pkg c.deref.result.now c.loop-place.place h
+    (omega (arith, c.loop-place-test.false, c.loop-place.auto.place-end, c.arity-place-end.ensures)) fault k))
+    c.call.ensures.fault
 
-pub evaluate_choice-bounds-es-1 : goal.evaluate_choice-bounds-es-1
-evaluate_choice-bounds-es-1 t c =
-    let long : length c.args.es.now ≡ 3 = ite_long c.args.es.now c.requires.formed.0 in
-    let within : 1 < length c.args.es.now = omega (arith, long) in
-    search (rules, arith)
-
-pub evaluate_choice-evaluate-requires-2 : goal.evaluate_choice-evaluate-requires-2
-evaluate_choice-evaluate-requires-2 t c =
-    let long : length c.args.es.now ≡ 3 = ite_long c.args.es.now c.requires.formed.0 in
-    let within : 1 < length c.args.es.now = omega (arith, long) in
-    let formed : IsFormed (tree_of c.index-es-1.result) = item_formed c.args.es.now 1 c.index-es-1.result c.index-es-1.is within c.requires.formed.1 in
-    let walked : walk (state_of c.evaluate.new.self) (tree_of c.index-es-1.result) ≡ None = subst (λ (s : State). walk s (tree_of c.index-es-1.result) ≡ None) (sym (c.evaluate.ensures.grows.state)) (item_walked (state_of c.args.self.now) c.args.es.now 1 c.index-es-1.result c.index-es-1.is within (walked_ite (state_of c.args.self.now) (listed c.args.es.now) c.requires.walked).0) in
-    let shallow : depth (tree_of c.index-es-1.result) ≤ depths (listed c.args.es.now) = item_shallow c.args.es.now 1 c.index-es-1.result c.index-es-1.is within in
-    search (rules, arith)
-
-pub evaluate_choice-returns-in-Err-evaluate-clause-fault :
-    goal.evaluate_choice-returns-in-Err-evaluate-clause-fault
-evaluate_choice-returns-in-Err-evaluate-clause-fault t c =
-    let other = three_more c.args.es.now c.index-es-0.result c.index-es-1.result (ite_long c.args.es.now c.requires.formed.0) c.index-es-0.is c.index-es-1.is in
-    subst (λ (es : Trees). IsFaultOf (state_of c.args.self.now) (Ite es) c.in-Err-evaluate.fault) (sym other.is)
-    (second_of_three_fails (state_of c.args.self.now) (tree_of c.index-es-0.result) (tree_of c.index-es-1.result) other.third c.in-Err-evaluate.fault c.in-Ok.ensures.built.fits
-    (subst (λ (s : State). IsFaultOf s (tree_of c.index-es-1.result) c.in-Err-evaluate.fault) c.evaluate.ensures.grows.state c.in-Err-evaluate.ensures.fault))
-
-pub evaluate_choice-bounds-es-2 : goal.evaluate_choice-bounds-es-2
-evaluate_choice-bounds-es-2 t c =
-    let long : length c.args.es.now ≡ 3 = ite_long c.args.es.now c.requires.formed.0 in
-    let within : 2 < length c.args.es.now = omega (arith, long) in
-    search (rules, arith)
-
-pub evaluate_choice-evaluate-requires-3 : goal.evaluate_choice-evaluate-requires-3
-evaluate_choice-evaluate-requires-3 t c =
-    let long : length c.args.es.now ≡ 3 = ite_long c.args.es.now c.requires.formed.0 in
-    let within : 2 < length c.args.es.now = omega (arith, long) in
-    let formed : IsFormed (tree_of c.index-es-2.result) = item_formed c.args.es.now 2 c.index-es-2.result c.index-es-2.is within c.requires.formed.1 in
-    let walked : walk (state_of c.evaluate-2.new.self) (tree_of c.index-es-2.result) ≡ None = subst (λ (s : State). walk s (tree_of c.index-es-2.result) ≡ None) (sym (c.evaluate-2.ensures.grows.state ∙ c.evaluate.ensures.grows.state)) (item_walked (state_of c.args.self.now) c.args.es.now 2 c.index-es-2.result c.index-es-2.is within (walked_ite (state_of c.args.self.now) (listed c.args.es.now) c.requires.walked).0) in
-    let shallow : depth (tree_of c.index-es-2.result) ≤ depths (listed c.args.es.now) = item_shallow c.args.es.now 2 c.index-es-2.result c.index-es-2.is within in
-    search (rules, arith)
-
-pub evaluate_choice-returns-in-Err-evaluate-2-clause-fault :
-    goal.evaluate_choice-returns-in-Err-evaluate-2-clause-fault
-evaluate_choice-returns-in-Err-evaluate-2-clause-fault t c =
-    subst (λ (es : Trees). IsFaultOf (state_of c.args.self.now) (Ite es) c.in-Err-evaluate-2.fault) (sym (three_listed c.args.es.now c.index-es-0.result c.index-es-1.result c.index-es-2.result (ite_long c.args.es.now c.requires.formed.0) c.index-es-0.is c.index-es-1.is c.index-es-2.is))
-    (third_of_three_fails (state_of c.args.self.now) (tree_of c.index-es-0.result) (tree_of c.index-es-1.result) (tree_of c.index-es-2.result) c.in-Err-evaluate-2.fault c.in-Ok.ensures.built.fits
-    (subst (λ (s : State). over s (tree_of c.index-es-1.result) ≡ None) c.evaluate.ensures.grows.state c.in-Ok-evaluate.ensures.built.fits)
-    (subst (λ (s : State). IsFaultOf s (tree_of c.index-es-2.result) c.in-Err-evaluate-2.fault) (c.evaluate-2.ensures.grows.state ∙ c.evaluate.ensures.grows.state) c.in-Err-evaluate-2.ensures.fault))
-
-pub evaluate_choice-choose-requires-clause-level :
-    goal.evaluate_choice-choose-requires-clause-level
-evaluate_choice-choose-requires-clause-level t c =
-    let equal = subst (λ (es : Trees). are_equal (levels (state_of c.args.self.now) es) ≡ true) (three_listed c.args.es.now c.index-es-0.result c.index-es-1.result c.index-es-2.result (ite_long c.args.es.now c.requires.formed.0) c.index-es-0.is c.index-es-1.is c.index-es-2.is) (walked_ite (state_of c.args.self.now) (listed c.args.es.now) c.requires.walked).1 in
-    let arguments = chosen_of c.args.self.now c.evaluate.new.self c.evaluate-2.new.self c.evaluate-3.new.self (tree_of c.index-es-0.result) (tree_of c.index-es-1.result) (tree_of c.index-es-2.result) c.in-Ok.f c.in-Ok-evaluate.g c.in-Ok-evaluate-2.h
-    c.evaluate.ensures.grows c.evaluate-2.ensures.grows c.evaluate-3.ensures.grows c.in-Ok.ensures.built c.in-Ok-evaluate.ensures.built c.in-Ok-evaluate-2.ensures.built equal in
-    second_level (state_of c.args.self.now) (tree_of c.index-es-0.result) (tree_of c.index-es-1.result) (tree_of c.index-es-2.result) c.evaluate-3.new.self.pkg c.in-Ok.f c.in-Ok-evaluate.g c.in-Ok-evaluate-2.h arguments
-
-pub evaluate_choice-choose-requires-clause-third_level :
-    goal.evaluate_choice-choose-requires-clause-third_level
-evaluate_choice-choose-requires-clause-third_level t c =
-    let equal = subst (λ (es : Trees). are_equal (levels (state_of c.args.self.now) es) ≡ true) (three_listed c.args.es.now c.index-es-0.result c.index-es-1.result c.index-es-2.result (ite_long c.args.es.now c.requires.formed.0) c.index-es-0.is c.index-es-1.is c.index-es-2.is) (walked_ite (state_of c.args.self.now) (listed c.args.es.now) c.requires.walked).1 in
-    let arguments = chosen_of c.args.self.now c.evaluate.new.self c.evaluate-2.new.self c.evaluate-3.new.self (tree_of c.index-es-0.result) (tree_of c.index-es-1.result) (tree_of c.index-es-2.result) c.in-Ok.f c.in-Ok-evaluate.g c.in-Ok-evaluate-2.h
-    c.evaluate.ensures.grows c.evaluate-2.ensures.grows c.evaluate-3.ensures.grows c.in-Ok.ensures.built c.in-Ok-evaluate.ensures.built c.in-Ok-evaluate-2.ensures.built equal in
-    third_level (state_of c.args.self.now) (tree_of c.index-es-0.result) (tree_of c.index-es-1.result) (tree_of c.index-es-2.result) c.evaluate-3.new.self.pkg c.in-Ok.f c.in-Ok-evaluate.g c.in-Ok-evaluate-2.h arguments
-
-pub evaluate_choice-returns-clause-built : goal.evaluate_choice-returns-clause-built
-evaluate_choice-returns-clause-built t c =
-    let equal = subst (λ (es : Trees). are_equal (levels (state_of c.args.self.now) es) ≡ true) (three_listed c.args.es.now c.index-es-0.result c.index-es-1.result c.index-es-2.result (ite_long c.args.es.now c.requires.formed.0) c.index-es-0.is c.index-es-1.is c.index-es-2.is) (walked_ite (state_of c.args.self.now) (listed c.args.es.now) c.requires.walked).1 in
-    let arguments = chosen_of c.args.self.now c.evaluate.new.self c.evaluate-2.new.self c.evaluate-3.new.self (tree_of c.index-es-0.result) (tree_of c.index-es-1.result) (tree_of c.index-es-2.result) c.in-Ok.f c.in-Ok-evaluate.g c.in-Ok-evaluate-2.h
-    c.evaluate.ensures.grows c.evaluate-2.ensures.grows c.evaluate-3.ensures.grows c.in-Ok.ensures.built c.in-Ok-evaluate.ensures.built c.in-Ok-evaluate-2.ensures.built equal in
-    subst (λ (es : Trees). IfOk c.choose.result (λ r. Builds (state_of c.args.self.now) (Ite es) c.choose.new.self.pkg r)) (sym (three_listed c.args.es.now c.index-es-0.result c.index-es-1.result c.index-es-2.result (ite_long c.args.es.now c.requires.formed.0) c.index-es-0.is c.index-es-1.is c.index-es-2.is))
-    (if_both c.choose.result _ _ (λ r. Builds (state_of c.args.self.now) (Ite (three (tree_of c.index-es-0.result) (tree_of c.index-es-1.result) (tree_of c.index-es-2.result))) c.choose.new.self.pkg r)
-    (λ r values flat. choice_built (state_of c.args.self.now) (tree_of c.index-es-0.result) (tree_of c.index-es-1.result) (tree_of c.index-es-2.result) c.evaluate-3.new.self.pkg c.choose.new.self.pkg c.in-Ok.f c.in-Ok-evaluate.g c.in-Ok-evaluate-2.h r arguments values flat)
-    c.choose.ensures.values c.choose.ensures.flat)
-
-pub evaluate_choice-returns-clause-fault : goal.evaluate_choice-returns-clause-fault
-evaluate_choice-returns-clause-fault t c =
-    IfErr-weaker c.choose.result _ _ (λ fault h. choice_fails (state_of c.args.self.now) (listed c.args.es.now) c.evaluate-3.new.self.pkg c.in-Ok.f c.in-Ok-evaluate.g c.in-Ok-evaluate-2.h fault h) c.choose.ensures.fault
-
-pub evaluate_fold-evaluate-requires : goal.evaluate_fold-evaluate-requires
-evaluate_fold-evaluate-requires t c =
-    let long = fold_long c.args.word c.args.es.now c.requires.formed.0 in
-    let formed : IsFormed (tree_of c.index-es-0.result) = item_formed c.args.es.now 0 c.index-es-0.result c.index-es-0.is long c.requires.formed.1 in
-    let walked : walk (state_of c.args.self.now) (tree_of c.index-es-0.result) ≡ None = item_walked (state_of c.args.self.now) c.args.es.now 0 c.index-es-0.result c.index-es-0.is long (walked_fold (state_of c.args.self.now) c.args.word (listed c.args.es.now) c.requires.walked).0 in
+pub evaluate_nested-evaluate-requires : goal.evaluate_nested-evaluate-requires
+evaluate_nested-evaluate-requires t c =
+    let long = nested_long c.args.head c.args.es.now c.requires.nested c.requires.formed.0 in
+    let formed : IsFormed (tree_of c.index-es-0.result) = item_formed c.args.head 0 c.args.es.now 0 c.index-es-0.result c.index-es-0.is long c.requires.formed.1 in
+    let walked : walk (state_of c.args.self.now) (tree_of c.index-es-0.result) ≡ None = item_walked (state_of c.args.self.now) c.args.es.now 0 c.index-es-0.result c.index-es-0.is long (walk-Call-arguments (state_of c.args.self.now) c.args.head (listed c.args.es.now) c.requires.walked) in
     let shallow : depth (tree_of c.index-es-0.result) ≤ depths (listed c.args.es.now) = item_shallow c.args.es.now 0 c.index-es-0.result c.index-es-0.is long in
     search (rules, arith)
 
-pub evaluate_fold-returns-in-Err-clause-fault : goal.evaluate_fold-returns-in-Err-clause-fault
-evaluate_fold-returns-in-Err-clause-fault t c =
-    let split = ap listed (first_and_later c.args.es.now c.index-es-0.result c.index-es-0.is (fold_long c.args.word c.args.es.now c.requires.formed.0)) in
-    subst (λ (all : Trees). IsFaultOf (state_of c.args.self.now) (Fold c.args.word all) c.in-Err.fault) (sym split)
-    (first_fails (state_of c.args.self.now) c.args.word (tree_of c.index-es-0.result) (listed (later c.args.es.now)) c.in-Err.fault c.in-Err.ensures.fault)
+pub evaluate_nested-returns-in-Err-clause-fault : goal.evaluate_nested-returns-in-Err-clause-fault
+evaluate_nested-returns-in-Err-clause-fault t c =
+    let split = ap listed (first_and_later c.args.es.now c.index-es-0.result c.index-es-0.is (nested_long c.args.head c.args.es.now c.requires.nested c.requires.formed.0)) in
+    subst (λ (all : Arguments). IsFaultOf (state_of c.args.self.now) (Call c.args.head all) c.in-Err.fault) (sym split)
+    (first_fails (state_of c.args.self.now) c.args.head (tree_of c.index-es-0.result) (listed (later c.args.es.now)) c.in-Err.fault c.in-Err.ensures.fault)
 
-pub evaluate_fold-loop-e-init : goal.evaluate_fold-loop-e-init
-evaluate_fold-loop-e-init t c =
-    let walked = (walked_fold (state_of c.args.self.now) c.args.word (listed c.args.es.now) c.requires.walked) in
+pub evaluate_nested-loop-e-init : goal.evaluate_nested-loop-e-init
+evaluate_nested-loop-e-init t c =
     record {
-      folding = begins (state_of c.args.self.now) c.args.word c.args.es.now c.index-es-0.result c.evaluate.new.self.pkg c.in-Ok.f c.index-es-0.is (fold_long c.args.word c.args.es.now c.requires.formed.0) c.requires.formed.1 walked.0 walked.1 c.in-Ok.ensures.built;
+      nesting = begins (state_of c.args.self.now) c.args.head c.args.es.now c.index-es-0.result c.evaluate.new.self.pkg c.in-Ok.f c.requires.nested c.index-es-0.is (nested_long c.args.head c.args.es.now c.requires.nested c.requires.formed.0) c.requires.formed c.requires.walked c.in-Ok.ensures.built;
       grows = c.evaluate.ensures.grows;
     }
 
-pub evaluate_fold-evaluate-requires-in-loop-e : goal.evaluate_fold-evaluate-requires-in-loop-e
-evaluate_fold-evaluate-requires-in-loop-e t c =
+pub evaluate_nested-evaluate-requires-in-loop-e : goal.evaluate_nested-evaluate-requires-in-loop-e
+evaluate_nested-evaluate-requires-in-loop-e t c =
     let inside : c.loop-e.e-index < length (later c.args.es.now) = c.loop-e-test.true in
-    let next_one = next (state_of c.args.self.now) c.args.word (listed c.args.es.now) c.loop-e.self.pkg c.loop-e.f (later c.args.es.now) c.loop-e.e-index c.e-item.result c.loop-e.invariant.folding c.e-item.is inside in
-    let formed : IsFormed (tree_of c.e-item.result) = next_one.formed.0 in
-    let walked : walk (state_of c.loop-e.self) (tree_of c.e-item.result) ≡ None = next_in_order (state_of c.args.self.now) c.args.word (listed c.args.es.now) c.loop-e.self c.loop-e.f (later c.args.es.now) c.loop-e.e-index c.e-item.result c.loop-e.invariant.grows.state c.loop-e.invariant.folding c.e-item.is inside in
+    let next_one = next (state_of c.args.self.now) c.args.head (listed c.args.es.now) c.loop-e.self.pkg c.loop-e.f (later c.args.es.now) c.loop-e.e-index c.e-item.result c.loop-e.invariant.nesting c.e-item.is inside in
+    let formed : IsFormed (tree_of c.e-item.result) = next_one.formed.1 in
+    let walked : walk (state_of c.loop-e.self) (tree_of c.e-item.result) ≡ None = next_in_order (state_of c.args.self.now) c.args.head (listed c.args.es.now) c.loop-e.self c.loop-e.f (later c.args.es.now) c.loop-e.e-index c.e-item.result c.loop-e.invariant.grows.state c.loop-e.invariant.nesting c.e-item.is inside in
     let shallow : depth (tree_of c.e-item.result) ≤ depths (listed (later c.args.es.now)) = item_shallow (later c.args.es.now) c.loop-e.e-index c.e-item.result c.e-item.is inside in
     let within : depths (listed (later c.args.es.now)) ≤ depths (listed c.args.es.now) = later_shallow c.args.es.now in
     search (rules, arith)
 
-pub evaluate_fold-returns-in-Err-evaluate-clause-fault :
-    goal.evaluate_fold-returns-in-Err-evaluate-clause-fault
-evaluate_fold-returns-in-Err-evaluate-clause-fault t c =
-    next_fails (state_of c.args.self.now) c.args.word (listed c.args.es.now) c.loop-e.self.pkg c.loop-e.f (tree_of c.e-item.result) (listed (drop (suc c.loop-e.e-index) (later c.args.es.now)))
-    (next (state_of c.args.self.now) c.args.word (listed c.args.es.now) c.loop-e.self.pkg c.loop-e.f (later c.args.es.now) c.loop-e.e-index c.e-item.result c.loop-e.invariant.folding c.e-item.is c.loop-e-test.true) c.in-Err-evaluate.fault
+pub evaluate_nested-returns-in-Err-evaluate-clause-fault :
+    goal.evaluate_nested-returns-in-Err-evaluate-clause-fault
+evaluate_nested-returns-in-Err-evaluate-clause-fault t c =
+    next_fails (state_of c.args.self.now) c.args.head (listed c.args.es.now) c.loop-e.self.pkg c.loop-e.f (tree_of c.e-item.result) (listed (drop (suc c.loop-e.e-index) (later c.args.es.now)))
+    (next (state_of c.args.self.now) c.args.head (listed c.args.es.now) c.loop-e.self.pkg c.loop-e.f (later c.args.es.now) c.loop-e.e-index c.e-item.result c.loop-e.invariant.nesting c.e-item.is c.loop-e-test.true) c.in-Err-evaluate.fault
     (subst (λ (s : State). IsFaultOf s (tree_of c.e-item.result) c.in-Err-evaluate.fault) c.loop-e.invariant.grows.state c.in-Err-evaluate.ensures.fault)
 
-pub evaluate_fold-returns-in-Err-evaluate-clause-grows :
-    goal.evaluate_fold-returns-in-Err-evaluate-clause-grows
-evaluate_fold-returns-in-Err-evaluate-clause-grows t c =
+pub evaluate_nested-returns-in-Err-evaluate-clause-grows :
+    goal.evaluate_nested-returns-in-Err-evaluate-clause-grows
+evaluate_nested-returns-in-Err-evaluate-clause-grows t c =
     grown_on c.args.self.now c.loop-e.self c.evaluate-in-loop-e.new.self c.loop-e.invariant.grows c.evaluate-in-loop-e.ensures.grows
 
-pub evaluate_fold-apply-requires : goal.evaluate_fold-apply-requires
-evaluate_fold-apply-requires t c =
-    let turn = (turned (state_of c.args.self.now) c.args.word (listed c.args.es.now) c.loop-e.self c.evaluate-in-loop-e.new.self c.loop-e.f c.in-Ok-evaluate.g (later c.args.es.now) c.loop-e.e-index c.e-item.result c.loop-e.invariant.grows.state c.loop-e.invariant.folding c.e-item.is c.loop-e-test.true c.evaluate-in-loop-e.ensures.grows c.in-Ok-evaluate.ensures.built) in
-    record { level = next_level (state_of c.args.self.now) c.args.word (listed c.args.es.now) c.evaluate-in-loop-e.new.self.pkg c.loop-e.f c.in-Ok-evaluate.g (tree_of c.e-item.result) (listed (drop (suc c.loop-e.e-index) (later c.args.es.now))) turn.folding turn.built }
+pub evaluate_nested-call-requires-clause-owned : goal.evaluate_nested-call-requires-clause-owned
+evaluate_nested-call-requires-clause-owned t c =
+    let turn = (turned (state_of c.args.self.now) c.args.head (listed c.args.es.now) c.loop-e.self c.evaluate-in-loop-e.new.self c.loop-e.f c.in-Ok-evaluate.g (later c.args.es.now) c.loop-e.e-index c.e-item.result c.loop-e.invariant.grows.state c.loop-e.invariant.nesting c.e-item.is c.loop-e-test.true c.evaluate-in-loop-e.ensures.grows c.in-Ok-evaluate.ensures.built) in
+    pair_owned c.evaluate-in-loop-e.new.self.pkg c.loop-e.f c.in-Ok-evaluate.g turn.nesting.owned turn.nesting.gives.flat turn.built.owned turn.built.gives.flat
 
-pub evaluate_fold-returns-in-Err-apply-clause-fault :
-    goal.evaluate_fold-returns-in-Err-apply-clause-fault
-evaluate_fold-returns-in-Err-apply-clause-fault t c =
-    let turn = (turned (state_of c.args.self.now) c.args.word (listed c.args.es.now) c.loop-e.self c.evaluate-in-loop-e.new.self c.loop-e.f c.in-Ok-evaluate.g (later c.args.es.now) c.loop-e.e-index c.e-item.result c.loop-e.invariant.grows.state c.loop-e.invariant.folding c.e-item.is c.loop-e-test.true c.evaluate-in-loop-e.ensures.grows c.in-Ok-evaluate.ensures.built) in
-    step_fails (state_of c.args.self.now) c.args.word (listed c.args.es.now) c.evaluate-in-loop-e.new.self.pkg c.loop-e.f c.in-Ok-evaluate.g (tree_of c.e-item.result) (listed (drop (suc c.loop-e.e-index) (later c.args.es.now))) turn.folding turn.built c.in-Err-apply.fault c.in-Err-apply.ensures.fault
+pub evaluate_nested-call-requires-clause-kinds : goal.evaluate_nested-call-requires-clause-kinds
+evaluate_nested-call-requires-clause-kinds t c = pair_kinds c.args.head c.requires.nested c.loop-e.f c.in-Ok-evaluate.g
 
-pub evaluate_fold-returns-in-Err-apply-clause-grows :
-    goal.evaluate_fold-returns-in-Err-apply-clause-grows
-evaluate_fold-returns-in-Err-apply-clause-grows t c =
-    grown_on c.args.self.now c.loop-e.self c.apply.new.self c.loop-e.invariant.grows (grown_on c.loop-e.self c.evaluate-in-loop-e.new.self c.apply.new.self c.evaluate-in-loop-e.ensures.grows c.apply.ensures.grows)
+pub evaluate_nested-call-requires-clause-ruled : goal.evaluate_nested-call-requires-clause-ruled
+evaluate_nested-call-requires-clause-ruled t c =
+    let turn = (turned (state_of c.args.self.now) c.args.head (listed c.args.es.now) c.loop-e.self c.evaluate-in-loop-e.new.self c.loop-e.f c.in-Ok-evaluate.g (later c.args.es.now) c.loop-e.e-index c.e-item.result c.loop-e.invariant.grows.state c.loop-e.invariant.nesting c.e-item.is c.loop-e-test.true c.evaluate-in-loop-e.ensures.grows c.in-Ok-evaluate.ensures.built) in
+    next_ruled (state_of c.args.self.now) c.args.head (listed c.args.es.now) c.evaluate-in-loop-e.new.self.pkg c.loop-e.f c.in-Ok-evaluate.g (tree_of c.e-item.result) (listed (drop (suc c.loop-e.e-index) (later c.args.es.now))) turn.nesting turn.built
 
-pub evaluate_fold-loop-e-preserved : goal.evaluate_fold-loop-e-preserved
-evaluate_fold-loop-e-preserved t c =
-    let turn = (turned (state_of c.args.self.now) c.args.word (listed c.args.es.now) c.loop-e.self c.evaluate-in-loop-e.new.self c.loop-e.f c.in-Ok-evaluate.g (later c.args.es.now) c.loop-e.e-index c.e-item.result c.loop-e.invariant.grows.state c.loop-e.invariant.folding c.e-item.is c.loop-e-test.true c.evaluate-in-loop-e.ensures.grows c.in-Ok-evaluate.ensures.built) in
+pub evaluate_nested-returns-in-Err-call-clause-fault :
+    goal.evaluate_nested-returns-in-Err-call-clause-fault
+evaluate_nested-returns-in-Err-call-clause-fault t c =
+    let turn = (turned (state_of c.args.self.now) c.args.head (listed c.args.es.now) c.loop-e.self c.evaluate-in-loop-e.new.self c.loop-e.f c.in-Ok-evaluate.g (later c.args.es.now) c.loop-e.e-index c.e-item.result c.loop-e.invariant.grows.state c.loop-e.invariant.nesting c.e-item.is c.loop-e-test.true c.evaluate-in-loop-e.ensures.grows c.in-Ok-evaluate.ensures.built) in
+    step_fails (state_of c.args.self.now) c.args.head (listed c.args.es.now) c.evaluate-in-loop-e.new.self.pkg c.loop-e.f c.in-Ok-evaluate.g (tree_of c.e-item.result) (listed (drop (suc c.loop-e.e-index) (later c.args.es.now))) turn.nesting turn.built c.in-Err-call.fault c.in-Err-call.ensures.fault
+
+pub evaluate_nested-returns-in-Err-call-clause-grows :
+    goal.evaluate_nested-returns-in-Err-call-clause-grows
+evaluate_nested-returns-in-Err-call-clause-grows t c =
+    grown_on c.args.self.now c.loop-e.self c.call.new.self c.loop-e.invariant.grows (grown_on c.loop-e.self c.evaluate-in-loop-e.new.self c.call.new.self c.evaluate-in-loop-e.ensures.grows c.call.ensures.grows)
+
+pub evaluate_nested-loop-e-preserved : goal.evaluate_nested-loop-e-preserved
+evaluate_nested-loop-e-preserved t c =
+    let turn = (turned (state_of c.args.self.now) c.args.head (listed c.args.es.now) c.loop-e.self c.evaluate-in-loop-e.new.self c.loop-e.f c.in-Ok-evaluate.g (later c.args.es.now) c.loop-e.e-index c.e-item.result c.loop-e.invariant.grows.state c.loop-e.invariant.nesting c.e-item.is c.loop-e-test.true c.evaluate-in-loop-e.ensures.grows c.in-Ok-evaluate.ensures.built) in
     record {
-      folding = counted (state_of c.args.self.now) c.args.word (listed c.args.es.now) c.apply.new.self.pkg c.in-Ok-apply.f (later c.args.es.now) c.loop-e.e-index
-          (folding_step (state_of c.args.self.now) c.args.word (listed c.args.es.now) c.evaluate-in-loop-e.new.self.pkg c.apply.new.self.pkg c.loop-e.f c.in-Ok-evaluate.g c.in-Ok-apply.f (tree_of c.e-item.result) (listed (drop (suc c.loop-e.e-index) (later c.args.es.now))) turn.folding turn.built
-          c.in-Ok-apply.ensures.values c.in-Ok-apply.ensures.flat);
-      grows = grown_on c.args.self.now c.loop-e.self c.apply.new.self c.loop-e.invariant.grows (grown_on c.loop-e.self c.evaluate-in-loop-e.new.self c.apply.new.self c.evaluate-in-loop-e.ensures.grows c.apply.ensures.grows);
+      nesting = counted (state_of c.args.self.now) c.args.head (listed c.args.es.now) c.call.new.self.pkg c.in-Ok-call.f (later c.args.es.now) c.loop-e.e-index
+          (nesting_step (state_of c.args.self.now) c.args.head (listed c.args.es.now) c.evaluate-in-loop-e.new.self.pkg c.call.new.self.pkg c.loop-e.f c.in-Ok-evaluate.g c.in-Ok-call.f (tree_of c.e-item.result) (listed (drop (suc c.loop-e.e-index) (later c.args.es.now))) turn.nesting turn.built
+          c.in-Ok-call.ensures.calls);
+      grows = grown_on c.args.self.now c.loop-e.self c.call.new.self c.loop-e.invariant.grows (grown_on c.loop-e.self c.evaluate-in-loop-e.new.self c.call.new.self c.evaluate-in-loop-e.ensures.grows c.call.ensures.grows);
     }
 
-pub evaluate_fold-returns-clause-built : goal.evaluate_fold-returns-clause-built
-evaluate_fold-returns-clause-built t c =
-    ends (state_of c.args.self.now) c.args.word (listed c.args.es.now) c.loop-e.self.pkg c.loop-e.f (later c.args.es.now) c.loop-e.e-index c.loop-e.invariant.folding c.loop-e-test.false
+pub evaluate_nested-returns-clause-built : goal.evaluate_nested-returns-clause-built
+evaluate_nested-returns-clause-built t c =
+    ends (state_of c.args.self.now) c.args.head (listed c.args.es.now) c.loop-e.self.pkg c.loop-e.f (later c.args.es.now) c.loop-e.e-index c.loop-e.invariant.nesting c.loop-e-test.false
 
-pub evaluate_fold-returns-clause-grows : goal.evaluate_fold-returns-clause-grows
-evaluate_fold-returns-clause-grows t c =
+pub evaluate_nested-returns-clause-grows : goal.evaluate_nested-returns-clause-grows
+evaluate_nested-returns-clause-grows t c =
     c.loop-e.invariant.grows
-
-pub evaluate_one-evaluate-requires : goal.evaluate_one-evaluate-requires
-evaluate_one-evaluate-requires t c =
-    let walked : walk (state_of c.args.self.now) (tree_of c.args.e.now) ≡ None = walked_one (state_of c.args.self.now) c.args.word (tree_of c.args.e.now) c.requires.walked in
-    let formed : IsFormed (tree_of c.args.e.now) = c.requires.formed in
-    search (rules, arith)
-
-pub evaluate_one-returns-in-Ok-clause-built : goal.evaluate_one-returns-in-Ok-clause-built
-evaluate_one-returns-in-Ok-clause-built t c =
-    if_both c.map.result _ _ _
-    (λ r values flat. one_built (state_of c.args.self.now) c.args.word (tree_of c.args.e.now) c.evaluate.new.self.pkg c.map.new.self.pkg c.in-Ok.f r c.in-Ok.ensures.built values flat)
-    c.map.ensures.values c.map.ensures.flat
-
-pub evaluate_one-returns-in-Ok-clause-fault : goal.evaluate_one-returns-in-Ok-clause-fault
-evaluate_one-returns-in-Ok-clause-fault t c =
-    IfErr-weaker c.map.result _ _
-    (λ fault h. one_fails (state_of c.args.self.now) c.args.word (tree_of c.args.e.now) c.evaluate.new.self.pkg c.in-Ok.f c.in-Ok.ensures.built fault h)
-    c.map.ensures.fault
-
-pub evaluate_one-returns-in-Err-clause-fault : goal.evaluate_one-returns-in-Err-clause-fault
-evaluate_one-returns-in-Err-clause-fault t c =
-    one_argument (state_of c.args.self.now) c.args.word (tree_of c.args.e.now) c.in-Err.fault c.in-Err.ensures.fault

@@ -1,84 +1,80 @@
-use Rattle.std.specs.Prelude.{take, ◌+◌, ◌&&◌}
-use Rattle.std.specs.Option.{option_or}
-use Rattle.std.proofs.Common.{◌≡◌, sym, ap, subst, ◌∙◌, refl, length, Some}
+use Rattle.std.proofs.Common.{◌≡◌, ◌≤◌, ◌+◌, ap, sym, subst, ◌∙◌, rules, arith, ℤ, suc}
 use Rattle.std.proofs.lemmas.Result.{IfOk-weaker, IfErr-weaker}
-use Rattle.std.proofs.lemmas.Option.{slice_get_read}
+use mir.Val.{SFits}
+use Rattle.std.specs.Int.{w128}
+use Rattle.std.proofs.lemmas.Int.{to_z-of_z}
+use Rattle.cf_reference.specs.Trees.{Tree, atom, Number, depth, depths, IsFormed}
 use Rattle.cf_reference.specs.Expressions.{walk}
-use Rattle.cf_script.specs.Views.{tree_of, listed}
-use Rattle.cf_script.proofs.Rows.{fold_listed, ite_listed}
+use Rattle.cf_script.specs.Vars.{atom_of}
+use Rattle.cf_script.specs.Views.{tree_of}
+use Rattle.cf_session.specs.Arguments.{arguments_of, from_place}
 use Rattle.cf_session.specs.Faults.{reason_of}
 use Rattle.cf_session.specs.Sessions.{state_of}
-use Rattle.cf_session.specs.Walks.{HasLevel, HaveLevel, walk_call, HasWalked}
-use Rattle.cf_session.proofs.WalkFacts.{num-level, one-level, one-refused, fold-level, fold-refused, ite-level, ite-refused, has-walked-none, has-walked-next, call-refused, handed-on}
+use Rattle.cf_session.specs.Walks.{HasLevel, HasPosition}
+use Rattle.cf_session.proofs.Gathering.{next-shallow}
+use Rattle.cf_session.proofs.WalkFacts.{Walking, walking-call, num-level, walking-function, walking-position, walking-number, walking-formed, function-refused, position-refused, whole-level, whole-refused}
+use Rattle.cf_session.proofs.session.Session.+walk.Goals.{walk_call-in-Expr+in-Ok, walk_call-in-Var+in-Ok-position, walk_call-in-Number}
 use Rattle.cf_session.proofs.session.Session.+walk.Goals as goal
 
 pub walk-returns-in-Num-clause-level : goal.walk-returns-in-Num-clause-level
 walk-returns-in-Num-clause-level t c =
-    subst (λ e. HasLevel (state_of c.args.self.now) (tree_of e) c.level_of_variables.result) (sym c.in-Num.is)
+    subst (λ (e : Tree). HasLevel (state_of c.args.self.now) e c.level_of_variables.result) (sym c.in-Num.ensures)
     (num-level (state_of c.args.self.now) _ c.level_of_variables.result c.level_of_variables.ensures.level)
 
-pub walk-returns-in-One-clause-level : goal.walk-returns-in-One-clause-level
-walk-returns-in-One-clause-level t c =
-    let s = state_of c.args.self.now in
-    IfOk-weaker c.walk.result (HasLevel s (tree_of c.deref.result.now)) (HasLevel s (tree_of c.args.expr.now))
-    (λ l h. subst (λ e. HasLevel s (tree_of e) l) (sym c.in-One.is)
-    (one-level s c.in-One.field-0 (tree_of c.in-One.e.value) l (subst (λ e. HasLevel s (tree_of e) l) c.deref.ensures h)))
-    c.walk.ensures.level
+pub walk_call-walk-requires : goal.walk_call-walk-requires
+walk_call-walk-requires t c =
+    let formed : IsFormed (tree_of c.in-Expr.e.now) = walking-formed (state_of c.args.self.now) c.loop-place.invariant.head (arguments_of (tree_of c.args.call.now)) c.loop-place.walked c.loop-place.place (tree_of c.in-Expr.e.now) c.loop-place.invariant.walking c.in-Expr.ensures in
+    let shallow : depth (tree_of c.in-Expr.e.now) ≤ depths (arguments_of (tree_of c.args.call.now)) = next-shallow (arguments_of (tree_of c.args.call.now)) c.loop-place.place (tree_of c.in-Expr.e.now) c.in-Expr.ensures in
+    let deeper : depth (tree_of c.args.call.now) ≡ depths (arguments_of (tree_of c.args.call.now)) + 1 = ap depth c.loop-place.invariant.is_call in
+    search (rules, arith)
 
-pub walk-returns-in-One-clause-refused : goal.walk-returns-in-One-clause-refused
-walk-returns-in-One-clause-refused t c =
-    let s = state_of c.args.self.now in
-    IfErr-weaker c.walk.result (λ r. walk s (tree_of c.deref.result.now) ≡ Some (reason_of r)) (λ r. walk s (tree_of c.args.expr.now) ≡ Some (reason_of r))
-    (λ r h. ap (λ e. walk s (tree_of e)) c.in-One.is ∙ one-refused s c.in-One.field-0 (tree_of c.in-One.e.value) ∙ ap (λ e. walk s (tree_of e)) (sym c.deref.ensures) ∙ h)
-    c.walk.ensures.refused
+pub walk_call-returns-in-Err-clause-refused : goal.walk_call-returns-in-Err-clause-refused
+walk_call-returns-in-Err-clause-refused t c =
+    ap (walk (state_of c.args.self.now)) c.loop-place.invariant.is_call
+    ∙ function-refused (state_of c.args.self.now) c.loop-place.invariant.head (arguments_of (tree_of c.args.call.now)) c.loop-place.walked c.loop-place.place (tree_of c.in-Expr.e.now) (reason_of c.in-Err.refusal) c.loop-place.invariant.walking c.in-Expr.ensures c.in-Err.ensures.refused
 
-pub walk-returns-in-Fold-clause-level : goal.walk-returns-in-Fold-clause-level
-walk-returns-in-Fold-clause-level t c =
-    let s = state_of c.args.self.now in
-    let tree = ap tree_of c.in-Fold.is ∙ fold_listed c.in-Fold.field-0 c.in-Fold.es in
-    IfOk-weaker c.walk_all.result (HaveLevel s (listed c.items.result.now)) (HasLevel s (tree_of c.args.expr.now))
-    (λ l h. subst (λ e. HasLevel s e l) (sym tree) (fold-level s c.in-Fold.field-0 (listed c.in-Fold.es.items.items) l (subst (λ es. HaveLevel s (listed es) l) c.items.ensures h)))
-    c.walk_all.ensures.level
+pub walk_call-returns-in-Err-position-clause-refused :
+    goal.walk_call-returns-in-Err-position-clause-refused
+walk_call-returns-in-Err-position-clause-refused t c =
+    ap (walk (state_of c.args.self.now)) c.loop-place.invariant.is_call
+    ∙ position-refused (state_of c.args.self.now) c.loop-place.invariant.head (arguments_of (tree_of c.args.call.now)) c.loop-place.walked c.loop-place.place (atom_of c.in-Var.var) (reason_of c.in-Err-position.refusal) c.loop-place.invariant.walking c.in-Var.ensures c.in-Err-position.ensures.refused
 
-pub walk-returns-in-Fold-clause-refused : goal.walk-returns-in-Fold-clause-refused
-walk-returns-in-Fold-clause-refused t c =
-    let s = state_of c.args.self.now in
-    let tree = ap tree_of c.in-Fold.is ∙ fold_listed c.in-Fold.field-0 c.in-Fold.es in
-    IfErr-weaker c.walk_all.result (λ r. walk_call s (listed c.items.result.now) ≡ Some (reason_of r)) (λ r. walk s (tree_of c.args.expr.now) ≡ Some (reason_of r))
-    (λ r h. ap (walk s) tree ∙ fold-refused s c.in-Fold.field-0 (listed c.in-Fold.es.items.items) ∙ ap (λ es. walk_call s (listed es)) (sym c.items.ensures) ∙ h)
-    c.walk_all.ensures.refused
+pub walk_call-loop-place-init : goal.walk_call-loop-place-init
+walk_call-loop-place-init t c =
+    walking-call (state_of c.args.self.now) (tree_of c.args.call.now) c.none-walked.result c.requires.is_call c.requires.formed c.none-walked.ensures
 
-pub walk-returns-in-Ite-clause-level : goal.walk-returns-in-Ite-clause-level
-walk-returns-in-Ite-clause-level t c =
+pub walk_call-loop-place-preserved : goal.walk_call-loop-place-preserved
+walk_call-loop-place-preserved t c =
     let s = state_of c.args.self.now in
-    let tree = ap tree_of c.in-Ite.is ∙ ite_listed c.in-Ite.es in
-    IfOk-weaker c.walk_all-in-Ite.result (HaveLevel s (listed c.items-in-Ite.result.now)) (HasLevel s (tree_of c.args.expr.now))
-    (λ l h. subst (λ e. HasLevel s e l) (sym tree) (ite-level s (listed c.in-Ite.es.items.items) l (subst (λ es. HaveLevel s (listed es) l) c.items-in-Ite.ensures h)))
-    c.walk_all-in-Ite.ensures.level
+    let h = c.loop-place.invariant in
+    let all = arguments_of (tree_of c.args.call.now) in
+    let place = c.loop-place.place in
+    let before = c.loop-place.walked in
+    let next : Walking s h.head all c.match-argument.walked (place + 1) = elim c.match-argument.branch [
+      | walk_call-in-Expr+in-Ok w ↦
+          subst (λ v. Walking s h.head all v (place + 1)) (sym w.walked-is)
+          (walking-function s h.head all before w.function.result place w.in-Ok.level (tree_of w.in-Expr.e.now) h.walking w.in-Expr.ensures w.in-Ok.ensures.level w.function.ensures)
+      | walk_call-in-Var+in-Ok-position w ↦
+          (let fits : SFits w128 w.in-Ok-position.i = search rules in
+          subst (λ v. Walking s h.head all v (place + 1)) (sym w.walked-is)
+          (walking-position s h.head all before w.position-in-Ok-position.result place _ (atom_of w.in-Var.var) h.walking w.in-Var.ensures
+          (subst (λ (z : ℤ). HasPosition s (atom_of w.in-Var.var) z) (sym (to_z-of_z w128 w.in-Ok-position.i fits)) w.in-Ok-position.ensures.position) w.position-in-Ok-position.ensures))
+      | walk_call-in-Number w ↦
+          (let fits : SFits w128 w.in-Number.n = search rules in
+          subst (λ v. Walking s h.head all v (place + 1)) (sym w.walked-is)
+          (walking-number s h.head all before w.number-walked.result place _ h.walking
+          (w.in-Number.ensures ∙ ap (λ z. atom (Number z) (from_place (suc place) all)) (sym (to_z-of_z w128 w.in-Number.n fits))) w.number-walked.ensures))
+    ] in
+    record { head = h.head; is_call = h.is_call; walking = next }
 
-pub walk-returns-in-Ite-clause-refused : goal.walk-returns-in-Ite-clause-refused
-walk-returns-in-Ite-clause-refused t c =
-    let s = state_of c.args.self.now in
-    let tree = ap tree_of c.in-Ite.is ∙ ite_listed c.in-Ite.es in
-    IfErr-weaker c.walk_all-in-Ite.result (λ r. walk_call s (listed c.items-in-Ite.result.now) ≡ Some (reason_of r)) (λ r. walk s (tree_of c.args.expr.now) ≡ Some (reason_of r))
-    (λ r h. ap (walk s) tree ∙ ite-refused s (listed c.in-Ite.es.items.items) ∙ ap (λ es. walk_call s (listed es)) (sym c.items-in-Ite.ensures) ∙ h)
-    c.walk_all-in-Ite.ensures.refused
+pub walk_call-returns-clause-level : goal.walk_call-returns-clause-level
+walk_call-returns-clause-level t c =
+    IfOk-weaker c.ruled.result _ _
+    (λ l r. whole-level (state_of c.args.self.now) c.loop-place.invariant.head (tree_of c.args.call.now) (arguments_of (tree_of c.args.call.now)) c.loop-place.walked c.loop-place.place l c.loop-place.invariant.walking c.loop-place.invariant.is_call c.requires.formed (omega (arith, c.loop-place-test.false, c.loop-place.auto.place-end, c.arity-place-end.ensures)) r)
+    c.ruled.ensures.level
 
-pub walk_all-loop-expr-init : goal.walk_all-loop-expr-init
-walk_all-loop-expr-init t c = has-walked-none (state_of c.args.self.now)
-
-pub walk_all-returns-in_err-level-clause-refused : goal.walk_all-returns-in_err-level-clause-refused
-walk_all-returns-in_err-level-clause-refused t c =
-    let s = state_of c.args.self.now in
-    handed-on c.from_residual.result c.in_err-level.field-0.0 (λ r. walk_call s (listed c.args.exprs.now) ≡ Some (reason_of r)) c.from_residual.ensures.1
-    (call-refused s c.args.exprs.now c.loop-expr.expr-index c.expr-item.result (reason_of c.in_err-level.field-0.0) (slice_get_read c.args.exprs.now (length c.args.exprs.now) c.loop-expr.expr-index c.expr-item.result refl c.loop-expr-test.true c.expr-item.is) c.loop-expr.invariant.walked c.in_err-level.ensures.refused)
-
-pub walk_all-loop-expr-preserved : goal.walk_all-loop-expr-preserved
-walk_all-loop-expr-preserved t c =
-    let s = state_of c.args.self.now in
-    let seen = listed (take (c.loop-expr.expr-index + 1) c.args.exprs.now) in
-    subst (λ first. HasWalked s seen first (c.loop-expr.equal && c.agrees-equal.result)) (sym c.or-common.ensures)
-    (subst (λ b. HasWalked s seen (option_or c.loop-expr.common (Some c.in_ok-level.level)) (c.loop-expr.equal && b)) (sym c.agrees-equal.ensures)
-    (has-walked-next s c.args.exprs.now c.loop-expr.expr-index c.expr-item.result c.in_ok-level.level c.loop-expr.common c.loop-expr.equal
-    (slice_get_read c.args.exprs.now (length c.args.exprs.now) c.loop-expr.expr-index c.expr-item.result refl c.loop-expr-test.true c.expr-item.is)
-    c.loop-expr.invariant c.in_ok-level.ensures.level))
+pub walk_call-returns-clause-refused : goal.walk_call-returns-clause-refused
+walk_call-returns-clause-refused t c =
+    IfErr-weaker c.ruled.result _ _
+    (λ r h. whole-refused (state_of c.args.self.now) c.loop-place.invariant.head (tree_of c.args.call.now) (arguments_of (tree_of c.args.call.now)) c.loop-place.walked c.loop-place.place (reason_of r) c.loop-place.invariant.walking c.loop-place.invariant.is_call c.requires.formed (omega (arith, c.loop-place-test.false, c.loop-place.auto.place-end, c.arity-place-end.ensures)) h)
+    c.ruled.ensures.refused

@@ -1,8 +1,15 @@
-use Rattle.std.specs.Prelude.{take}
-use Rattle.cf_script.specs.Views.{listed}
+use Rattle.std.proofs.Common.{◌+◌, ◌*◌}
+use Rattle.cf_reference.specs.Trees.{depth}
+use Rattle.cf_script.specs.Views.{tree_of}
 use Rattle.cf_session.specs.Sessions.{state_of}
-use Rattle.cf_session.specs.Walks.{HasWalked}
+use Rattle.cf_session.proofs.WalkFacts.{WalkingCall}
 use Rattle.cf_session.proofs.session.Session.+walk.Given as goal
 
-abbrev pub invariant-walk_all-loop-expr : goal.invariant-walk_all-loop-expr
-invariant-walk_all-loop-expr l = HasWalked (state_of l.self) (listed (take l.expr-index l.exprs)) l.common l.equal
+abbrev pub decreases-walk : goal.decreases-walk
+decreases-walk l = 2 * depth (tree_of l.expr.now) + 1
+
+abbrev pub decreases-walk_call : goal.decreases-walk_call
+decreases-walk_call l = 2 * depth (tree_of l.call.now)
+
+abbrev pub invariant-walk_call-loop-place : goal.invariant-walk_call-loop-place
+invariant-walk_call-loop-place l = WalkingCall (state_of l.self) (tree_of l.call) l.walked l.place

@@ -2,7 +2,7 @@ use Rattle.std.proofs.Common.{subst, ap, refl}
 use Rattle.cf_model.specs.FlatFunctions.{IsFlatFunction}
 use Rattle.cf_pkg.specs.Packages.{Package, meaning}
 use Rattle.cf_session.specs.Sessions.{Held, state_of}
-use Rattle.cf_session.proofs.Arguments.{name_built}
+use Rattle.cf_session.proofs.Built.{name_built}
 use Rattle.cf_session.proofs.Growth.{flat}
 use Rattle.cf_session.proofs.Walked.{walked_named}
 use Rattle.cf_session.proofs.session.Session.named.Goals as goal
