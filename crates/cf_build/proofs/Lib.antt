@@ -6,5 +6,6 @@ pub mod Turns
 pub mod Differing
 pub mod Loops
 pub mod Numbers
+pub mod Rowing
 pub mod PartLaws
 pub mod Faithful

@@ -2,7 +2,6 @@ use Rattle.std.proofs.Common.{◌≡◌, ℕ, zero, suc, max, ◌<◌, ◌≤◌
 use Rattle.std.proofs.lemmas.List.{length-map, map-append, take_more, append-nil, append_assoc, map_push}
 use Rattle.std.proofs.lemmas.List.Concat.{flat_map_single}
 use Rattle.std.specs.List.{flat_map, slice_get, All}
-use Rattle.std.specs.declared.vec.Vec.{Vec}
 use Rattle.cf_model.specs.Renumbering.{width, Grows, IsCanon, rgs}
 use Rattle.cf_model.proofs.RenumberingLaws.{canon_length, nat_decides, map_map}
 use Rattle.cf_model.specs.Diagrams.{Levels, Node, Connection, no_connection, exit_at, connection_at, count, row, spell, exits, all_returns}
@@ -12,10 +11,10 @@ use Rattle.cf_model.proofs.CanonLaws.{map_under, canon_is}
 use Rattle.cf_table.specs.declared.Gid.{Gid}
 use Rattle.cf_build.specs.Assembling.{classed, row_of, IsRow, label_at, row_labels, labels_over}
 use Rattle.cf_build.specs.declared.rows.Row.{Row}
-use Rattle.cf_build.specs.Joining.{IsLooseNode, AreInTurn, row_connection, loose_node, frame, row_frame, AreNumbered}
+use Rattle.cf_build.specs.Joining.{IsLooseNode, AreInTurn, row_connection, loose_node, frame, row_frame, ArePlaced, AreNumbered}
 use Rattle.cf_build.proofs.Words.{read_carries}
 use Rattle.cf_build.proofs.Joins.{flat_map_under, map_words, made}
-use Rattle.cf_build.proofs.Placing.{frame_conn, frame_places, framed, in_turn_push, returns_flat}
+use Rattle.cf_build.proofs.Placing.{frame_conn, frame_places, framed, returns_flat}
 
 -- one place of a canon
 spelled_at : {A : Type 0} (all : List A) (p : List ℕ) (ds : List A) → map (slice_get ds) p ≡ map Some all → (i : ℕ) → i < length p → (d : A) → slice_get ds (get_or p i 0) ≡ Some (get_or all i d)
@@ -146,12 +145,12 @@ numbered_canon c n e p u a ns rs ranks ds g shape flat canon =
     }
 
 -- from the rows of `assemble` to connections
-pub shaped_rows : {A Z : Type 0} (rows : List (Gid × Vec A Z)) (placed : List Row) (ranks : List ℕ) → map row_frame placed ≡ map frame rows → AreInTurn 0 placed (length ranks) → Shaped (map (row_connection ranks) placed) (map row_of rows)
+pub shaped_rows : {A : Type 0} (rows : List (Gid × List A)) (placed : List Row) (ranks : List ℕ) → map row_frame placed ≡ map frame rows → AreInTurn 0 placed (length ranks) → Shaped (map (row_connection ranks) placed) (map row_of rows)
 shaped_rows rows placed ranks h turn =
     framed ranks 0 placed turn ∙ ap (λ (v : List (Gid × ℕ)). map frame_places v) h ∙ map_map frame_places frame rows
     ∙ sym (map_map frame_row row_of rows)
 
-pub placed_levels : {A Z : Type 0} (t : Levels) (l : ℕ) (rows : List (Gid × Vec A Z)) (placed : List Row) → map row_frame placed ≡ map frame rows → All (IsRow t l) rows
+pub placed_levels : {A : Type 0} (t : Levels) (l : ℕ) (rows : List (Gid × List A)) (placed : List Row) → map row_frame placed ≡ map frame rows → All (IsRow t l) rows
     → (k : ℕ) (d : Row) → k < length placed → (get_or placed k d).callee.level ≡ l
 placed_levels t l rows [] h all k d lk = absurd (omega (arith, lk))
 placed_levels t l [] (n ∷ placed) h all k d lk = cc
@@ -162,12 +161,12 @@ placed_levels t l (r ∷ rows) (n ∷ placed) h all (suc k) d lk =
     let rest : map row_frame placed ≡ map frame rows = cc in
     placed_levels t l rows placed rest (λ i e li. all (suc i) e (omega (arith, li))) k d (omega (arith, lk))
 
-row_at : {A Z : Type 0} (t : Levels) (l : ℕ) (rows : List (Gid × Vec A Z)) → All (IsRow t l) rows → (j : ℕ) → j < length rows → ((get_or (map row_of rows) j (0, [])).0 < count t l) × (length (get_or (map row_of rows) j (0, [])).1 ≡ exits t l (get_or (map row_of rows) j (0, [])).0)
+row_at : {A : Type 0} (t : Levels) (l : ℕ) (rows : List (Gid × List A)) → All (IsRow t l) rows → (j : ℕ) → j < length rows → ((get_or (map row_of rows) j (0, [])).0 < count t l) × (length (get_or (map row_of rows) j (0, [])).1 ≡ exits t l (get_or (map row_of rows) j (0, [])).0)
 row_at t l [] all j lj = absurd (omega (arith, lj))
 row_at t l (r ∷ rows) all zero lj = let h = all 0 r (omega arith) in (h.owned, h.labelled)
 row_at t l (r ∷ rows) all (suc j) lj = row_at t l rows (λ i e li. all (suc i) e (omega (arith, li))) j (omega (arith, lj))
 
-pub placed_loose : {A Z : Type 0} (t : Levels) (l a : ℕ) (rows : List (Gid × Vec A Z)) (placed : List Row) (ranks : List ℕ) → a < count t l → length rows ≡ exits t l a → All (IsRow t l) rows
+pub placed_loose : {A : Type 0} (t : Levels) (l a : ℕ) (rows : List (Gid × List A)) (placed : List Row) (ranks : List ℕ) → a < count t l → length rows ≡ exits t l a → All (IsRow t l) rows
     → map row_frame placed ≡ map frame rows → AreInTurn 0 placed (length ranks) → Grows 0 ranks → IsLooseNode (count t l) (exits t l) (loose_node a placed ranks)
 placed_loose t l a rows placed ranks own middles all shape turn grow =
     let s = shaped_rows rows placed ranks shape turn in
@@ -182,34 +181,10 @@ placed_loose t l a rows placed ranks own middles all shape turn grow =
       first_reach = subst (λ (v : List ℕ). Grows 0 v) (sym (returns_flat ranks placed turn)) grow;
     }
 
--- no row was read
-pub numbered_none : {A Z : Type 0} (rows : List Row) (ranks : List ℕ) (different : List A) → rows ≡ [] → IsCanon [] ranks different → AreNumbered {Z = Z} [] rows ranks different
-numbered_none rows ranks different e c = record {
-  canon = c;
-  frames = ap (λ (v : List Row). map row_frame v) e;
-  in_turn = subst (λ (v : List Row). AreInTurn 0 v (length ranks)) (sym e) (sym (canon_length [] ranks different c));
+-- the ranks of the labels of rows that stand in turn
+pub numbered : {A : Type 0} (given : List (Gid × List A)) (rows : List Row) (labels : List A) (ranks : List ℕ) (different : List A) → ArePlaced given rows labels → IsCanon labels ranks different → AreNumbered given rows ranks different
+numbered {A} given rows labels ranks different p c = record {
+  canon = subst (λ (v : List A). IsCanon v ranks different) (sym p.all) c;
+  frames = p.frames;
+  in_turn = subst (λ (n : ℕ). AreInTurn 0 rows n) (sym (canon_length labels ranks different c)) p.in_turn;
 }
-
--- one more row, once its labels were read
-pub numbered_more : {A Z : Type 0} (given : List (Gid × Vec A Z)) (rows after : List Row) (ranks now : List ℕ) (before different : List A) (row : Gid × Vec A Z) (r : Row) (i : ℕ) → i < length given → row ≡ get_or given i row
-    → AreNumbered (take i given) rows ranks before → ((all : List A) → IsCanon all ranks before → IsCanon (all ++ row.1.items) now different)
-    → after ≡ rows ++ r ∷ [] → r.callee ≡ row.0 → r.start ≡ length ranks → r.end ≡ length now → AreNumbered (take (i + 1) given) after now different
-numbered_more {A} {Z} given rows after ranks now before different row r i l is h read e callee start end =
-    let labels : Gid × Vec A Z → List A = λ r. r.1.items in
-    let more : take (i + 1) given ≡ take i given ++ row ∷ [] = take_more given i row l ∙ ap (λ (x : Gid × Vec A Z). take i given ++ x ∷ []) (sym is) in
-    let canon : IsCanon (flat_map labels (take i given) ++ row.1.items) now different = read (flat_map labels (take i given)) h.canon in
-    let flat : flat_map labels (take i given) ++ row.1.items ≡ flat_map labels (take (i + 1) given) = sym (flat_map_push labels (take i given) row) ∙ ap (λ (v : List (Gid × Vec A Z)). flat_map labels v) (sym more) in
-    let long : length now ≡ length ranks + length row.1.items =
-    omega (arith, canon_length (flat_map labels (take i given) ++ row.1.items) now different canon, canon_length (flat_map labels (take i given)) ranks before h.canon, length-append (flat_map labels (take i given)) row.1.items) in
-    let width : r.end - r.start ≡ length row.1.items = omega (arith, end, long, start) in
-    record {
-      canon = subst (λ (v : List A). IsCanon v now different) flat canon;
-      frames = ap (λ (v : List Row). map row_frame v) e ∙ map_push row_frame rows r ∙ ap (λ (v : List (Gid × ℕ)). v ++ row_frame r ∷ []) h.frames
-          ∙ ap (λ (f : Gid × ℕ). map frame (take i given) ++ f ∷ []) (ap (λ (g : Gid). (g, r.end - r.start)) callee ∙ ap (λ (n : ℕ). (row.0, n)) width)
-          ∙ sym (map_push frame (take i given) row) ∙ ap (λ (v : List (Gid × Vec A Z)). map frame v) (sym more);
-      in_turn = subst (λ (v : List Row). AreInTurn 0 v (length now)) (sym e) (subst (λ (n : ℕ). AreInTurn 0 (rows ++ r ∷ []) n) end (in_turn_push 0 (length ranks) rows r h.in_turn start (omega (arith, start, end, long))));
-    }
-  where
-    flat_map_push : {X B : Type 0} (f : X → List B) (xs : List X) (y : X) → flat_map f (xs ++ y ∷ []) ≡ flat_map f xs ++ f y
-    flat_map_push f [] y = append-nil (f y)
-    flat_map_push f (x ∷ xs) y = ap (λ (v : List _). f x ++ v) (flat_map_push f xs y) ∙ sym (append_assoc (f x) (flat_map f xs) (f y))

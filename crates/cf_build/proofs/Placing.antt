@@ -24,7 +24,7 @@ in_turn_push start middle [] r h e le = (e ∙ sym h, le, refl)
 in_turn_push start middle (x ∷ rows) r h e le = (h.0, h.1, in_turn_push x.end middle rows r h.2 e le)
 
 -- the labels of a row stay where more labels come
-labels_kept : {A : Type 0} (xs ys : List A) (r : Row) → r.start ≤ r.end → r.end ≤ length xs → labels_in (xs ++ ys) r ≡ labels_in xs r
+pub labels_kept : {A : Type 0} (xs ys : List A) (r : Row) → r.start ≤ r.end → r.end ≤ length xs → labels_in (xs ++ ys) r ≡ labels_in xs r
 labels_kept xs ys r le within =
     ap (λ (v : List _). take (r.end - r.start) v) (drop-append-le r.start xs ys (omega (arith, le, within)))
     ∙ take-append-le (r.end - r.start) (drop r.start xs) ys (omega (arith, length-drop r.start xs, le, within))
@@ -62,7 +62,7 @@ drop_whole [] = refl
 drop_whole (x ∷ xs) = drop_whole xs
 
 -- rows in turn give out all labels from their start on
-parts_flat : {A : Type 0} (xs : List A) (start : ℕ) (rows : List Row) → AreInTurn start rows (length xs) → flat_map (labels_in xs) rows ≡ drop start xs
+pub parts_flat : {A : Type 0} (xs : List A) (start : ℕ) (rows : List Row) → AreInTurn start rows (length xs) → flat_map (labels_in xs) rows ≡ drop start xs
 parts_flat xs start [] h = sym (drop_whole xs) ∙ ap (λ (k : ℕ). drop k xs) (sym h)
 parts_flat xs start (r ∷ rows) h =
     ap (λ (v : List _). labels_in xs r ++ v) (parts_flat xs r.end rows h.2)
@@ -78,11 +78,15 @@ frame_conn c = (c.callee, length c.returns)
 abbrev pub frame_places : Gid × ℕ → ℕ × ℕ
 frame_places f = (f.0.at, f.1)
 
+-- a row has as many labels as lie between its places
+pub labels_long : {A : Type 0} (labels : List A) (r : Row) → r.start ≤ r.end → r.end ≤ length labels → length (labels_in labels r) ≡ r.end - r.start
+labels_long labels r le within = length-take-le (r.end - r.start) (drop r.start labels) (omega (arith, length-drop r.start labels, le, within))
+
 -- the rows as B-connections have the groupings and the lengths that their frames say
 pub framed : (xs : List ℕ) (start : ℕ) (rows : List Row) → AreInTurn start rows (length xs) → map frame_conn (map (row_connection xs) rows) ≡ map frame_places (map row_frame rows)
 framed xs start [] h = refl
 framed xs start (r ∷ rows) h =
     let end : r.end ≤ length xs = in_turn_le r.end (length xs) rows h.2 in
-    let long : length (labels_in xs r) ≡ r.end - r.start = length-take-le (r.end - r.start) (drop r.start xs) (omega (arith, length-drop r.start xs, h.1, end)) in
+    let long : length (labels_in xs r) ≡ r.end - r.start = labels_long xs r h.1 end in
     ap (λ (n : ℕ). (r.callee.at, n) ∷ map frame_conn (map (row_connection xs) rows)) long
     ∙ ap (λ (v : List (ℕ × ℕ)). (r.callee.at, r.end - r.start) ∷ v) (framed xs r.end rows h.2)

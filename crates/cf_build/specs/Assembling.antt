@@ -7,14 +7,27 @@ use Rattle.cf_model.specs.Diagrams.{Levels, count, exits, pattern}
 use Rattle.cf_table.specs.declared.Gid.{Gid}
 
 -- A row over level l of a table: a grouping of that level, and a label for each of its exits.
-pub record IsRow {A Z : Type 0} (t : Levels) (l : ℕ) (r : Gid × Vec A Z) : Type 0 where
+pub record IsRow {A : Type 0} (t : Levels) (l : ℕ) (r : Gid × List A) : Type 0 where
   pub level : r.0.level ≡ l
   pub owned : r.0.at < count t l
-  pub labelled : length r.1.items ≡ exits t l r.0.at
+  pub labelled : length r.1 ≡ exits t l r.0.at
 
 -- a row as its grouping's place and its labels
-abbrev pub row_of : {A Z : Type 0} → Gid × Vec A Z → ℕ × List A
-row_of r = (r.0.at, r.1.items)
+abbrev pub row_of : {A : Type 0} → Gid × List A → ℕ × List A
+row_of r = (r.0.at, r.1)
+
+-- a row with the list that a vector holds
+abbrev pub listed : {A Z : Type 0} → Gid × Vec A Z → Gid × List A
+listed r = (r.0, r.1.items)
+
+-- Rows to be assembled, and the labels of the row that isn't ended yet.
+pub record Rowed (A : Type 0) : Type 0 where
+  pub rows : List (Gid × List A)
+  pub begun : List A
+
+-- rows that are all ended
+abbrev pub ended : {A : Type 0} → List (Gid × List A) → Rowed A
+ended rows = record { rows = rows; begun = [] }
 
 -- the label of exit i, as a list of one
 abbrev pub label_at : {A : Type 0} → List A → ℕ → List A

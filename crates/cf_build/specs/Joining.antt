@@ -1,12 +1,11 @@
 use Rattle.std.specs.Prelude.{◌≡◌, ℕ, ◌<◌, ◌≤◌, ◌-◌, List, [], ◌∷◌, map, length, take, drop, flat_map, slice_index_or as get_or}
-use Rattle.std.specs.declared.vec.Vec.{Vec}
 use Rattle.cf_model.specs.Renumbering.{width, Grows, IsCanon}
 use Rattle.cf_model.specs.Diagrams.{Node, Connection, connection_at, count, exits, pattern, row, all_returns, IsGoodConnection}
 use Rattle.cf_table.specs.declared.Gid.{Gid}
 use Rattle.cf_table.specs.declared.BConn.{BConn}
 use Rattle.cf_table.specs.Groupings.{Groupings, connection_of}
 use Rattle.cf_build.specs.declared.rows.Row.{Row}
-use Rattle.cf_build.specs.Assembling.{classed}
+use Rattle.cf_build.specs.Assembling.{classed, Rowed}
 
 -- A B-connection that need not be good, since an entry may stand twice in its return tuple.
 pub record IsLooseConnection (c : ℕ) (e : ℕ → ℕ) (b : Connection) : Type 0 where
@@ -68,17 +67,36 @@ pub record AreThin (t : Groupings) (l : ℕ) (patterns : ℕ → List ℕ) (loos
   pub long : length bs ≡ length loose
   pub each : (j : ℕ) → j < length loose → IsThin t l (row patterns (connection_at loose j)) (connection_at loose j).returns (get_or bs j blank)
 
+-- a row's grouping, and its labels out of those of all rows
+abbrev pub labelled : {A : Type 0} → List A → Row → Gid × List A
+labelled labels r = (r.callee, labels_in labels r)
+
+-- rows by their places, those of the labels from `start` on being of a row that isn't ended yet
+abbrev pub rowed : {A : Type 0} → List Row → List A → ℕ → Rowed A
+rowed rows labels start = record { rows = map (labelled labels) rows; begun = drop start labels }
+
+-- The labels of the rows stand in turn, up to `start`.
+pub record ArePlaces (rows : List Row) (start count : ℕ) : Type 0 where
+  pub in_turn : AreInTurn 0 rows start
+  pub within : start ≤ count
+
 -- a row's grouping, and how many labels it has
-abbrev pub frame : {A Z : Type 0} → Gid × Vec A Z → Gid × ℕ
-frame r = (r.0, length r.1.items)
+abbrev pub frame : {A : Type 0} → Gid × List A → Gid × ℕ
+frame r = (r.0, length r.1)
 
 -- the same of a row whose labels stand in a list
 abbrev pub row_frame : Row → Gid × ℕ
 row_frame r = (r.callee, r.end - r.start)
 
+-- The labels of the given rows stand in turn in one list, at the places of the rows.
+pub record ArePlaced {A : Type 0} (given : List (Gid × List A)) (rows : List Row) (labels : List A) : Type 0 where
+  pub all : flat_map (λ r. r.1) given ≡ labels
+  pub frames : map row_frame rows ≡ map frame given
+  pub in_turn : AreInTurn 0 rows (length labels)
+
 -- The rows have the groupings of the given rows, and the ranks of their labels, which stand in turn in one list. The
 -- ranks and the different labels are the canon of all labels, row after row.
-pub record AreNumbered {A Z : Type 0} (given : List (Gid × Vec A Z)) (rows : List Row) (ranks : List ℕ) (different : List A) : Type 0 where
-  pub canon : IsCanon (flat_map (λ r. r.1.items) given) ranks different
+pub record AreNumbered {A : Type 0} (given : List (Gid × List A)) (rows : List Row) (ranks : List ℕ) (different : List A) : Type 0 where
+  pub canon : IsCanon (flat_map (λ r. r.1) given) ranks different
   pub frames : map row_frame rows ≡ map frame given
   pub in_turn : AreInTurn 0 rows (length ranks)

@@ -6,19 +6,20 @@ mod merge;
 mod numbering;
 mod rows;
 
-ghost use Rattle.std.specs.Prelude.{◌≡◌, ◌≤◌, suc, length, map, nat_eq, All, IfOk, IsTrue};
+ghost use Rattle.std.specs.Prelude.{◌≡◌, ◌≤◌, [], suc, length, map, nat_eq, All, IfOk, IsTrue};
 ghost use Rattle.cf_model.specs.Renumbering.{Grows, rgs};
 ghost use Rattle.cf_model.specs.Patterns.{sub};
 ghost use Rattle.cf_model.specs.Diagrams.{pattern, IsGood, Extends, HasPatterns};
 ghost use Rattle.cf_tuple.specs.Books.{Lengthens};
 ghost use Rattle.cf_table.specs.Groupings.{Owns, exits_of, pattern_of, KeepsPatterns};
-ghost use Rattle.cf_build.specs.Assembling.{IsRow, row_of, labels_over, classed, Stands, HasCanon, AddsOnly};
+ghost use Rattle.cf_build.specs.Assembling.{IsRow, row_of, labels_over, classed, Stands, HasCanon, AddsOnly, listed};
 
 use cf_table::{Gid, Table};
 use cf_tuple::NoMemory;
 pub use label::{Label, canon_of};
+pub use rows::Rows;
 use merge::{join, merge};
-use rows::{Numbered, numbered_rows};
+use rows::gathered;
 use std::alloc::Global;
 
 /// Whether each class is known or the next number.
@@ -88,17 +89,19 @@ pub fn reduce(alloc: Global, table: &mut Table, g: Gid, classes: &[u64]) -> Resu
 /// at each assignment this label: where grouping a has exit j at the first half, and row j's
 /// grouping has exit i at the second half, label i of row j. There is a row for each exit of a,
 /// and a label for each exit of a row's grouping. Labels may repeat.
-pub fn assemble<T: Label>(
+pub fn assemble_rows<T: Label>(
     alloc: Global,
     table: &mut Table,
     a: Gid,
-    rows: &[(Gid, Vec<T>)],
+    rows: &Rows<T>,
 ) -> Result<(Gid, Vec<T>), NoMemory>
     requires owned { Owns table.old a }
     requires level { a.level ≤ 6 }
-    requires middles { length rows.now ≡ exits_of table.old a }
-    requires rows { All (IsRow table.old.levels a.level) rows.now }
-    ensures assembled { IfOk result (λ r. HasCanon table.new.levels r.0 (suc a.level) (labels_over (pattern table.old.levels a.level) a.at (map row_of rows.now)) r.1.items) }
+    requires ended { rows.now.begun ≡ [] }
+    requires middles { length rows.now.rows ≡ exits_of table.old a }
+    requires rows { All (IsRow table.old.levels a.level) rows.now.rows }
+    ensures assembled { IfOk result (λ r. HasCanon table.new.levels r.0 (suc a.level)
+        (labels_over (pattern table.old.levels a.level) a.at (map row_of rows.now.rows)) r.1.items) }
     ensures added { IfOk result (λ r. AddsOnly table.old.levels table.new.levels (sub r.0.level (pattern_of table.new r.0))) }
     ensures parts { IfOk result (λ r. HasPatterns table.new.levels (sub r.0.level (pattern_of table.new r.0))) }
     ensures good { IsGood table.new.levels }
@@ -108,18 +111,34 @@ pub fn assemble<T: Label>(
     ensures products { table.new.products ≡ table.old.products }
 {
     table.law();
-    let numbered = numbered_rows(alloc, rows)?;
-    let g = join(
-        alloc,
-        table,
-        a,
-        numbered.rows.as_slice(),
-        numbered.ranks.as_slice(),
-    )?;
-    let Numbered {
-        rows: _,
-        ranks: _,
-        different,
-    } = numbered;
+    let (places, labels) = rows.places();
+    let (ranks, different) = canon_of(alloc, labels)?;
+    let g = join(alloc, table, a, places, ranks.as_slice())?;
     Ok((g, different))
+}
+
+/// The same of rows whose labels stand in lists of their own.
+pub fn assemble<T: Label>(
+    alloc: Global,
+    table: &mut Table,
+    a: Gid,
+    rows: &[(Gid, Vec<T>)],
+) -> Result<(Gid, Vec<T>), NoMemory>
+    requires owned { Owns table.old a }
+    requires level { a.level ≤ 6 }
+    requires middles { length rows.now ≡ exits_of table.old a }
+    requires rows { All (IsRow table.old.levels a.level) (map listed rows.now) }
+    ensures assembled { IfOk result (λ r. HasCanon table.new.levels r.0 (suc a.level)
+        (labels_over (pattern table.old.levels a.level) a.at (map row_of (map listed rows.now))) r.1.items) }
+    ensures added { IfOk result (λ r. AddsOnly table.old.levels table.new.levels (sub r.0.level (pattern_of table.new r.0))) }
+    ensures parts { IfOk result (λ r. HasPatterns table.new.levels (sub r.0.level (pattern_of table.new r.0))) }
+    ensures good { IsGood table.new.levels }
+    ensures kept { Extends table.old.levels table.new.levels }
+    ensures patterns { KeepsPatterns table.old.levels table.new.levels }
+    ensures tuples { Lengthens table.old.tuples table.new.tuples }
+    ensures products { table.new.products ≡ table.old.products }
+{
+    table.law();
+    let rows = gathered(alloc, rows)?;
+    assemble_rows(alloc, table, a, &rows)
 }
