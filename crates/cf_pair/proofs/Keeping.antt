@@ -1,9 +1,9 @@
-use Rattle.std.proofs.Common.{◌≡◌, ℕ, suc, ◌<◌, ◌*◌, Bool, true, List, [], ◌∷◌, ◌++◌, map, refl, sym, ◌∙◌, ap, subst, arith}
+use Rattle.std.proofs.Common.{rules, ◌≡◌, ℕ, suc, ◌<◌, ◌*◌, Bool, true, List, [], ◌∷◌, ◌++◌, map, refl, sym, ◌∙◌, ap, subst, arith}
 use Rattle.std.specs.List.{zip}
-use Rattle.std.specs.Prelude.{Result}
+use Rattle.std.specs.Prelude.{Result, Ok, Err, OnOk}
 use Rattle.std.specs.Result.{is_ok, IsErr}
 use Rattle.cf_model.specs.Renumbering.{IsNew}
-use Rattle.cf_model.specs.Patterns.{Pattern}
+use Rattle.cf_model.specs.Patterns.{Pattern, sub}
 use Rattle.cf_model.specs.Diagrams.{Levels, Connection, count, exits, exit_at, pattern, row, IsGood, IsGoodConnection, Extends}
 use Rattle.cf_model.proofs.Growing.{exits_kept, pattern_kept}
 use Rattle.cf_tuple.specs.Books.{Lengthens}
@@ -13,9 +13,9 @@ use Rattle.cf_table.specs.declared.BConn.{BConn}
 use Rattle.cf_table.specs.Groupings.{Groupings, connection_of, patterns_of, IsProduct}
 use Rattle.cf_table.specs.Triples.{zip3, IsTriple}
 use Rattle.cf_table.specs.Goodness.{IsGoodOver}
-use Rattle.cf_build.specs.Assembling.{HasCanon}
-use Rattle.std.specs.declared.vec.Vec.{Vec}
-use Rattle.cf_pair.specs.Products.{connection_row, Lists}
+use Rattle.cf_build.specs.Assembling.{Rowed, HasCanon, AddsOnly}
+use Rattle.cf_pair.specs.Products.{connection_row, row_triples, Lists, AddsPartsOf, GainsRow, IsReturned, IsAdded}
+use Rattle.cf_pair.proofs.Pushing.{gains_so}
 use Rattle.cf_pair.specs.Charges.{pair_work, IsCharged}
 use Rattle.cf_pair.proofs.Bounds.{charged_self, still_new, pair_kept, sub_self, failed}
 
@@ -89,6 +89,13 @@ charged_kept t u n good x g h hg hh s e new c kept =
     charged_self t.products u.products n k.0 k.1 (2 * pair_work k) s e true true c new (omega arith) (sub_self k.0.level k.0.ranks) (sub_self k.1.level k.1.ranks)
     (λ y. (refl, kept ∙ ap (λ (q : Pattern × Pattern). u.products ++ q ∷ []) (pair_kept t.levels u.levels good x g h hg hh)))
 
+-- so the steps are charged whether it was kept or not
+pub charged_whole : {T E : Type 0} (t u : Groupings) (n : List (Pattern × Pattern)) → IsGood t.levels → Extends t.levels u.levels → (g h : Gid) → g.at < count t.levels g.level → h.at < count t.levels h.level → (s e : ℕ) → IsNew t.products (patterns_of t.levels g h)
+    → IsCharged t.products u.products (patterns_of t.levels g h).0 (patterns_of t.levels g h).1 g.level (2 * pair_work (patterns_of t.levels g h)) s e true → (r : Result T E) → OnOk r (n ≡ u.products ++ patterns_of u.levels g h ∷ [])
+    → IsCharged t.products n (patterns_of t.levels g h).0 (patterns_of t.levels g h).1 (suc g.level) 0 s e (is_ok r)
+charged_whole {T} {E} t u n good x g h hg hh s e new c (Ok y) kept = charged_kept t u n good x g h hg hh s e new c kept
+charged_whole {T} {E} t u n good x g h hg hh s e new c (Err y) kept = charged_failed {T = T} {E = E} t u.products n g h s e true (Err y) (search rules) new c
+
 -- a product of three groupings stays one of them as the table grows
 pub canon3_kept : (t u : Levels) → IsGood t → Extends t u → (f g h head : Gid) (ts : List (ℕ × ℕ × ℕ)) → f.at < count t f.level → g.at < count t g.level → h.at < count t h.level
     → HasCanon u head f.level (zip3 (pattern t f.level f.at) (pattern t g.level g.at) (pattern t h.level h.at)) ts → HasCanon u head f.level (zip3 (pattern u f.level f.at) (pattern u g.level g.at) (pattern u h.level h.at)) ts
@@ -110,9 +117,21 @@ is_triple t u good x f g h head ts hf hg hh p = record {
 }
 
 -- a row of three B-connections has the labels that they had before the table grew
-pub lists3_kept : {Z : Type 0} (t u : Groupings) → IsGood t.levels → Extends t.levels u.levels → Lengthens t.tuples u.tuples → (l : ℕ) (x y z : BConn) → IsGoodOver t l x → IsGoodOver t l y → IsGoodOver t l z → (r : Gid × Vec (ℕ × ℕ × ℕ) Z)
+pub lists3_kept : (t u : Groupings) → IsGood t.levels → Extends t.levels u.levels → Lengthens t.tuples u.tuples → (l : ℕ) (x y z : BConn) → IsGoodOver t l x → IsGoodOver t l y → IsGoodOver t l z → (r : Gid × List (ℕ × ℕ × ℕ))
     → Lists u.levels l (zip3 (connection_row u l x) (connection_row u l y) (connection_row u l z)) r → Lists u.levels l (zip3 (connection_row t l x) (connection_row t l y) (connection_row t l z)) r
 lists3_kept t u good e longer l x y z hx hy hz r h =
     subst (λ (v : List ℕ). Lists u.levels l (zip3 (connection_row t l x) (connection_row t l y) v) r) (row_kept t u good e longer l z hz)
     (subst (λ (v : List ℕ). Lists u.levels l (zip3 (connection_row t l x) v (connection_row u l z)) r) (row_kept t u good e longer l y hy)
     (subst (λ (v : List ℕ). Lists u.levels l (zip3 v (connection_row u l y) (connection_row u l z)) r) (row_kept t u good e longer l x hx) h))
+
+-- and the table has gained only what its grouping is made of
+pub returned_added : (t u : Groupings) → IsGood t.levels → Extends t.levels u.levels → Lengthens t.tuples u.tuples → (x y z : BConn) → IsGoodOver t x.«to».level x → IsGoodOver t x.«to».level y → IsGoodOver t x.«to».level z → («to» : Gid) → «to».level ≡ x.«to».level → AddsPartsOf t u «to»
+    → (before now : Rowed (ℕ × ℕ × ℕ)) → GainsRow before now (IsReturned u.levels «to» x.«to».level (row_triples u x y z)) → GainsRow before now (IsAdded t.levels u.levels x.«to».level (row_triples t x y z))
+returned_added t u good e longer x y z hx hy hz «to» level added before now =
+    let l = x.«to».level in
+    let here : AddsOnly t.levels u.levels (sub l (pattern u.levels l «to».at)) = subst (λ (m : ℕ). AddsOnly t.levels u.levels (sub m (pattern u.levels m «to».at))) level added in
+    gains_so (IsReturned u.levels «to» l (row_triples u x y z)) (IsAdded t.levels u.levels l (row_triples t x y z)) before now
+    (λ r h. record {
+      lists = lists3_kept t u good e longer l x y z hx hy hz r h.lists;
+      added = subst (λ (g : Gid). AddsOnly t.levels u.levels (sub l (pattern u.levels l g.at))) (sym h.head) here;
+    })

@@ -5,3 +5,4 @@ pub mod Triples
 pub mod Constants
 pub mod Bounds
 pub mod Keeping
+pub mod Pushing

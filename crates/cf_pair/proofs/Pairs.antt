@@ -1,6 +1,5 @@
 use Rattle.std.proofs.Common.{◌≡◌, ◌≢◌, ℕ, zero, suc, ◌<◌, ◌+◌, ◌-◌, List, [], ◌∷◌, map, refl, sym, ◌∙◌, ap, subst, length, get_or, arith, add-one, Some, Bool, true, false, ◌&&◌, nat_eq}
 use Rattle.std.specs.List.{slice_get, zip, All}
-use Rattle.std.specs.declared.vec.Vec.{Vec}
 use Rattle.std.proofs.lemmas.List.{length-map}
 use Rattle.std.proofs.lemmas.Option.{same_Some}
 use Rattle.std.proofs.lemmas.Bool.{false≢true}
@@ -65,14 +64,14 @@ same_pair : (x y : ℕ × ℕ) → x.0 ≡ y.0 → x.1 ≡ y.1 → x ≡ y
 same_pair x y a b = ap (λ (u : ℕ). two u x.1) a ∙ ap (λ (u : ℕ). two y.0 u) b
 
 -- the row that is made of two B-connections
-pub pair_lists : {Z : Type 0} (t u : Levels) → IsGood t → IsGood u → (l : ℕ) (b c : Connection) → IsGoodConnection (count t l) (exits t l) b → IsGoodConnection (count t l) (exits t l) c → («to» : Gid) (ps : List (ℕ × ℕ)) (labels : Vec (ℕ × ℕ) Z)
-    → HasCanon u «to» l (zip (pattern t l b.callee) (pattern t l c.callee)) ps → labels.items ≡ map (returned2 b.returns c.returns) ps → Lists u l (zip (row (pattern t l) b) (row (pattern t l) c)) («to», labels)
+pub pair_lists : (t u : Levels) → IsGood t → IsGood u → (l : ℕ) (b c : Connection) → IsGoodConnection (count t l) (exits t l) b → IsGoodConnection (count t l) (exits t l) c → («to» : Gid) (ps : List (ℕ × ℕ)) (labels : List (ℕ × ℕ))
+    → HasCanon u «to» l (zip (pattern t l b.callee) (pattern t l c.callee)) ps → labels ≡ map (returned2 b.returns c.returns) ps → Lists u l (zip (row (pattern t l) b) (row (pattern t l) c)) («to», labels)
 pair_lists t u gt gu l b c gb gc g ps labels h e =
     let own : g.at < count u l = subst (λ (m : ℕ). g.at < count u m) h.level h.there in
     let canon : IsCanon (zip (pattern t l b.callee) (pattern t l c.callee)) (pattern u l g.at) ps = subst (λ (m : ℕ). IsCanon (zip (pattern t l b.callee) (pattern t l c.callee)) (pattern u m g.at) ps) h.level h.canon in
     record {
       is_row = record { level = h.level; owned = own; labelled = ap length e ∙ length-map ps (returned2 b.returns c.returns) ∙ sym canon.reached ∙ (level_holds u gu l).reaches g.at own };
-      labels = row_listed (returned2 b.returns c.returns) (zip (pattern t l b.callee) (pattern t l c.callee)) (pattern u l g.at) ps labels.items (0, 0) canon e
+      labels = row_listed (returned2 b.returns c.returns) (zip (pattern t l b.callee) (pattern t l c.callee)) (pattern u l g.at) ps labels (0, 0) canon e
           ∙ sym (zip_map (exit_at b) (exit_at c) (pattern t l b.callee) (pattern t l c.callee));
       differ = subst (λ (v : List (ℕ × ℕ)). AllDiffer v) (sym e)
           (differ_map (returned2 b.returns c.returns) (Both (length b.returns) (length c.returns)) ps (0, 0) (pairs_in t gt l b c gb gc (pattern u l g.at) ps canon)
@@ -81,7 +80,7 @@ pair_lists t u gt gu l b c gb gc g ps labels h e =
     }
 
 -- What the product of two groupings knows: `t` at entry, `u` after the A-callees' product, `v` after the rows.
-pub record Pairing {Z : Type 0} (t u v : Levels) (k l g h a b c : ℕ) (ms : List (ℕ × ℕ)) (rows : List (Gid × Vec (ℕ × ℕ) Z)) : Type 0 where
+pub record Pairing (t u v : Levels) (k l g h a b c : ℕ) (ms : List (ℕ × ℕ)) (rows : List (Gid × List (ℕ × ℕ))) : Type 0 where
   pub good : IsGood t
   pub below : l + 1 ≡ k
   pub first : g < count t k
@@ -147,7 +146,7 @@ pair_words u gu k l g h p ms e hg hh c =
     )
 
 -- the rows spell the pairs
-pub paired : {Z : Type 0} (t u v : Levels) (k l g h a b c : ℕ) (ms : List (ℕ × ℕ)) (rows : List (Gid × Vec (ℕ × ℕ) Z)) → Pairing t u v k l g h a b c ms rows → labels_over (pattern v l) c (map row_of rows) ≡ zip (pattern t k g) (pattern t k h)
+pub paired : (t u v : Levels) (k l g h a b c : ℕ) (ms : List (ℕ × ℕ)) (rows : List (Gid × List (ℕ × ℕ))) → Pairing t u v k l g h a b c ms rows → labels_over (pattern v l) c (map row_of rows) ≡ zip (pattern t k g) (pattern t k h)
 paired t u v k l g h a b c ms rows w =
     let gu : g < count u k = omega (arith, w.first, w.extends1.more k) in
     let hu : h < count u k = omega (arith, w.second, w.extends1.more k) in
@@ -215,7 +214,7 @@ pub level_with : {A : Type 0} (t u : Levels) (e a b : Gid) (l : ℕ) (f : List �
 level_with t u e a b l f ms h p q = subst (λ (m : ℕ). HasCanon u e l (f (pattern t l a.at) (pattern t m b.at)) ms) q (subst (λ (m : ℕ). HasCanon u e m (f (pattern t m a.at) (pattern t b.level b.at)) ms) p h)
 
 -- The same as `Pairing`, as the code has it.
-pub record PairCall {Z : Type 0} (t u v : Levels) (g h a b e : Gid) (ms : List (ℕ × ℕ)) (rows : List (Gid × Vec (ℕ × ℕ) Z)) : Type 0 where
+pub record PairCall (t u v : Levels) (g h a b e : Gid) (ms : List (ℕ × ℕ)) (rows : List (Gid × List (ℕ × ℕ))) : Type 0 where
   pub good : IsGood t
   pub positive : g.level ≢ 0
   pub levels : h.level ≡ g.level
@@ -232,7 +231,7 @@ pub record PairCall {Z : Type 0} (t u v : Levels) (g h a b e : Gid) (ms : List (
   pub extends2 : Extends u v
   pub listed : ListEach v (g.level - 1) (λ i. pair_word (pattern u (g.level - 1)) (node u g.level g.at).connections (node u h.level h.at).connections (get_or ms i (0, 0))) (length ms) rows
 
-pub pairing : {Z : Type 0} (t u v : Levels) (g h a b e : Gid) (ms : List (ℕ × ℕ)) (rows : List (Gid × Vec (ℕ × ℕ) Z)) → PairCall t u v g h a b e ms rows → Pairing t u v g.level (g.level - 1) g.at h.at a.at b.at e.at ms rows
+pub pairing : (t u v : Levels) (g h a b e : Gid) (ms : List (ℕ × ℕ)) (rows : List (Gid × List (ℕ × ℕ))) → PairCall t u v g h a b e ms rows → Pairing t u v g.level (g.level - 1) g.at h.at a.at b.at e.at ms rows
 pairing t u v g h a b e ms rows w =
     let k = g.level in
     let l = k - 1 in
@@ -254,7 +253,7 @@ pairing t u v g h a b e ms rows w =
     }
 
 -- what is known once the pairs' rows were assembled
-pub assembly : {Z : Type 0} (t u v w : Levels) (g h a b e : Gid) (ms : List (ℕ × ℕ)) (rows : List (Gid × Vec (ℕ × ℕ) Z)) (r : Gid) (ds : List (ℕ × ℕ)) → PairCall t u v g h a b e ms rows → IsGood w → Extends v w
+pub assembly : (t u v w : Levels) (g h a b e : Gid) (ms : List (ℕ × ℕ)) (rows : List (Gid × List (ℕ × ℕ))) (r : Gid) (ds : List (ℕ × ℕ)) → PairCall t u v g h a b e ms rows → IsGood w → Extends v w
     → HasCanon w r (suc e.level) (labels_over (pattern v e.level) e.at (map row_of rows)) ds
     → AddsOnly t u (sub e.level (pattern u e.level e.at)) → AddsOnlyIn u v (g.level - 1) rows → AddsOnly v w (sub r.level (pattern w r.level r.at))
     → HasCanon w r g.level (zip (pattern t g.level g.at) (pattern t h.level h.at)) ds × AddsOnly t w (sub r.level (pattern w r.level r.at))

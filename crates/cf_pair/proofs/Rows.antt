@@ -1,7 +1,6 @@
 use Rattle.std.proofs.Common.{◌≡◌, ℕ, zero, suc, ◌<◌, ◌+◌, List, [], ◌∷◌, ◌++◌, map, refl, sym, ◌∙◌, ap, subst, length, get_or, arith, inl, inr}
 use Rattle.std.specs.List.{flat_map, Contains}
 use Rattle.std.specs.Option.{option_to_list}
-use Rattle.std.specs.declared.vec.Vec.{Vec}
 use Rattle.std.proofs.lemmas.Bool.{cases_lt}
 use Rattle.std.proofs.lemmas.List.{length-map, get_or-map, get_or_append_left, get_or_push, length_push}
 use Rattle.std.proofs.lemmas.List.Concat.{flat_map_single}
@@ -13,7 +12,7 @@ use Rattle.cf_model.specs.Diagrams.{Levels, connection_at, node, count, pattern,
 use Rattle.cf_model.proofs.Growth.{Under-width}
 use Rattle.cf_model.proofs.RenumberingLaws.{map_map}
 use Rattle.cf_model.proofs.Canonicity.{level_holds}
-use Rattle.cf_model.proofs.Growing.{pattern_kept, exits_kept, Extends-trans}
+use Rattle.cf_model.proofs.Growing.{pattern_kept, exits_kept, Extends-trans, Extends-refl}
 use Rattle.cf_tuple.specs.Books.{Lengthens}
 use Rattle.cf_tuple.proofs.BookLaws.{Lengthens-trans}
 use Rattle.cf_table.specs.declared.Gid.{Gid}
@@ -49,23 +48,33 @@ labels_listed q a all ms none word rs k h =
     ∙ ap (λ (v : List _). flat_map word v) (sym reads)
 
 -- a row stays as the table grows
-pub Lists-kept : {A Z : Type 0} (t u : Levels) (l : ℕ) (all : List A) (r : Gid × Vec A Z) → IsGood t → Extends t u → Lists t l all r → Lists u l all r
+pub Lists-kept : {A : Type 0} (t u : Levels) (l : ℕ) (all : List A) (r : Gid × List A) → IsGood t → Extends t u → Lists t l all r → Lists u l all r
 Lists-kept t u l all r g x h =
     let own : r.0.at < count t l = h.is_row.owned in
     record {
       is_row = record { level = h.is_row.level; owned = omega (arith, own, x.more l); labelled = h.is_row.labelled ∙ sym (exits_kept t u x l r.0.at own) };
-      labels = ap (λ (p : List ℕ). flat_map (label_at r.1.items) p) (pattern_kept t u g x l r.0.at own) ∙ h.labels;
+      labels = ap (λ (p : List ℕ). flat_map (label_at r.1) p) (pattern_kept t u g x l r.0.at own) ∙ h.labels;
       differ = h.differ;
     }
 
 abbrev pattern_at : Levels → ℕ → ℕ → Pattern
 pattern_at t k j = record { level = k; ranks = pattern t k j }
 
-place_of : {A Z : Type 0} (rows : List (Gid × Vec A Z)) (m : ℕ) (d : Gid × Vec A Z) → m < length rows → (get_or (map row_of rows) m (0, [])).0 ≡ (get_or rows m d).0.at
+place_of : {A : Type 0} (rows : List (Gid × List A)) (m : ℕ) (d : Gid × List A) → m < length rows → (get_or (map row_of rows) m (0, [])).0 ≡ (get_or rows m d).0.at
 place_of rows m d h = ap (λ (r : _). r.0) (get_or-map row_of rows m d (0, []) h)
 
+-- no row yet
+pub listed_none : {A : Type 0} (t : Groupings) (l : ℕ) (wanted : ℕ → List A) (rows : List (Gid × List A)) → IsGood t.levels → rows ≡ [] → HasListed t t l wanted 0 rows
+listed_none {A} t l wanted rows good e = record {
+  good = good;
+  extends = Extends-refl t.levels;
+  longer = record { more = omega arith; kept = λ i h. refl };
+  listed = record { long = ap length e; each = λ i d li. absurd (omega (arith, li)) };
+  added = λ k j ge lt. absurd (omega (arith, ge, lt));
+}
+
 -- one more row
-pub listed_more : {A Z : Type 0} (t s u : Groupings) (l : ℕ) (wanted : ℕ → List A) (i : ℕ) (rows after : List (Gid × Vec A Z)) (r : Gid × Vec A Z) → HasListed t s l wanted i rows
+pub listed_more : {A : Type 0} (t s u : Groupings) (l : ℕ) (wanted : ℕ → List A) (i : ℕ) (rows after : List (Gid × List A)) (r : Gid × List A) → HasListed t s l wanted i rows
     → Lists u.levels l (wanted i) r → AddsOnly s.levels u.levels (sub l (pattern u.levels l r.0.at)) → IsGood u.levels → Extends s.levels u.levels → Lengthens s.tuples u.tuples → after ≡ rows ++ r ∷ [] → HasListed t u l wanted (i + 1) after
 listed_more t s u l wanted i rows after r g new added gu x y e =
     let long : length after ≡ length rows + 1 = ap length e ∙ length_push rows r in
@@ -99,7 +108,7 @@ listed_more t s u l wanted i rows after r g new added gu x y e =
     }
 
 -- What is known once rows were assembled: `t` at entry, `u` after the A-callees' product `c`, `v` after the rows, `w` at the end.
-pub record Assembly {A Z : Type 0} (t u v w : Levels) (l c : ℕ) (rows : List (Gid × Vec A Z)) (words : ℕ → List A) (g : Gid) (ds : List A) : Type 0 where
+pub record Assembly {A : Type 0} (t u v w : Levels) (l c : ℕ) (rows : List (Gid × List A)) (words : ℕ → List A) (g : Gid) (ds : List A) : Type 0 where
   pub good : IsGood t
   pub good1 : IsGood u
   pub good2 : IsGood v
@@ -117,12 +126,12 @@ pub record Assembly {A Z : Type 0} (t u v w : Levels) (l c : ℕ) (rows : List (
   pub added2 : AddsOnlyIn u v l rows
   pub added3 : AddsOnly v w (sub g.level (pattern w g.level g.at))
 
-pub each_row : {A Z : Type 0} (P : ℕ × List A → Type 0) (rows : List (Gid × Vec A Z)) (j : ℕ) → j < length rows → ((d : Gid × Vec A Z) → P (row_of (get_or rows j d))) → P (get_or (map row_of rows) j (0, []))
+pub each_row : {A : Type 0} (P : ℕ × List A → Type 0) (rows : List (Gid × List A)) (j : ℕ) → j < length rows → ((d : Gid × List A) → P (row_of (get_or rows j d))) → P (get_or (map row_of rows) j (0, []))
 each_row P [] j lj h = absurd (omega (arith, lj))
 each_row P (r ∷ rows) zero lj h = h r
 each_row P (r ∷ rows) (suc j) lj h = each_row P rows j (omega (arith, lj)) h
 
-labels_kept : {A Z : Type 0} (v w : Levels) → IsGood v → IsGood w → Extends v w → (l c : ℕ) → c < count v l → (rows : List (Gid × Vec A Z)) (words : ℕ → List A) → length rows ≡ exits v l c → ListEach v l words (length rows) rows
+labels_kept : {A : Type 0} (v w : Levels) → IsGood v → IsGood w → Extends v w → (l c : ℕ) → c < count v l → (rows : List (Gid × List A)) (words : ℕ → List A) → length rows ≡ exits v l c → ListEach v l words (length rows) rows
     → labels_over (pattern v l) c (map row_of rows) ≡ labels_over (pattern w l) c (map row_of rows)
 labels_kept v w gv gw x l c own rows words middles listed =
     let rs = map row_of rows in
@@ -132,7 +141,7 @@ labels_kept v w gv gw x l c own rows words middles listed =
     (λ j lj. ap (λ (p : List ℕ). flat_map (label_at (get_or rs j (0, [])).1) p) (sym (pattern_kept v w gv x l (get_or rs j (0, [])).0 (each_row (λ r. r.0 < count v l) rows j lj (λ d. (listed.each j d lj).is_row.owned)))))
     ∙ ap (λ (p : List ℕ). flat_map (λ j. row_labels (pattern w l) (get_or rs j (0, []))) p) (sym (pattern_kept v w gv x l c own))
 
-pub assembled_over : {A Z : Type 0} (t u v w : Levels) (l c : ℕ) (rows : List (Gid × Vec A Z)) (words : ℕ → List A) (g : Gid) (ds : List A) → Assembly t u v w l c rows words g ds → Over w l c g.at (map row_of rows) words ds
+pub assembled_over : {A : Type 0} (t u v w : Levels) (l c : ℕ) (rows : List (Gid × List A)) (words : ℕ → List A) (g : Gid) (ds : List A) → Assembly t u v w l c rows words g ds → Over w l c g.at (map row_of rows) words ds
 assembled_over t u v w l c rows words g ds h =
     let lr : length (map row_of rows) ≡ length rows = length-map rows row_of in
     let cv : c < count v l = omega (arith, h.callee_exists, h.extends2.more l) in
@@ -153,7 +162,7 @@ assembled_over t u v w l c rows words g ds h =
     }
 
 -- all that was added is in the answer's `sub`
-pub assembled_added : {A Z : Type 0} (t u v w : Levels) (l c : ℕ) (rows : List (Gid × Vec A Z)) (words : ℕ → List A) (g : Gid) (ds : List A) → Assembly t u v w l c rows words g ds → AddsOnly t w (sub g.level (pattern w g.level g.at))
+pub assembled_added : {A : Type 0} (t u v w : Levels) (l c : ℕ) (rows : List (Gid × List A)) (words : ℕ → List A) (g : Gid) (ds : List A) → Assembly t u v w l c rows words g ds → AddsOnly t w (sub g.level (pattern w g.level g.at))
 assembled_added t u v w l c rows words g ds h k j ge lt =
     let o = assembled_over t u v w l c rows words g ds h in
     let f = faithful w l c g.at (map row_of rows) words ds o in

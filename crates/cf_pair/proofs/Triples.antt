@@ -1,6 +1,5 @@
 use Rattle.std.proofs.Common.{◌≡◌, ◌≢◌, ℕ, suc, ◌<◌, ◌+◌, ◌-◌, List, [], ◌∷◌, map, refl, sym, ◌∙◌, ap, subst, length, get_or, arith, Bool, true, false, ◌&&◌, nat_eq}
 use Rattle.std.specs.List.{All}
-use Rattle.std.specs.declared.vec.Vec.{Vec}
 use Rattle.std.proofs.lemmas.List.{length-map}
 use Rattle.std.proofs.lemmas.Bool.{false≢true}
 use Rattle.cf_model.specs.Renumbering.{AllDiffer, IsApart, IsCanon}
@@ -38,8 +37,8 @@ triples_in t g l b c d gb gc gd ranks ts k =
     (all_zip3 (length b.returns) (length c.returns) (length d.returns) (pattern t l b.callee) (pattern t l c.callee) (pattern t l d.callee) (callee_under t g l b gb) (callee_under t g l c gc) (callee_under t g l d gd))
 
 -- the row that is made of three B-connections
-pub triple_lists : {Z : Type 0} (t u : Levels) → IsGood t → IsGood u → (l : ℕ) (b c d : Connection) → IsGoodConnection (count t l) (exits t l) b → IsGoodConnection (count t l) (exits t l) c → IsGoodConnection (count t l) (exits t l) d
-    → («to» : Gid) (ts : List (ℕ × ℕ × ℕ)) (labels : Vec (ℕ × ℕ × ℕ) Z) → HasCanon u «to» l (zip3 (pattern t l b.callee) (pattern t l c.callee) (pattern t l d.callee)) ts → labels.items ≡ map (returned3 b.returns c.returns d.returns) ts
+pub triple_lists : (t u : Levels) → IsGood t → IsGood u → (l : ℕ) (b c d : Connection) → IsGoodConnection (count t l) (exits t l) b → IsGoodConnection (count t l) (exits t l) c → IsGoodConnection (count t l) (exits t l) d
+    → («to» : Gid) (ts : List (ℕ × ℕ × ℕ)) (labels : List (ℕ × ℕ × ℕ)) → HasCanon u «to» l (zip3 (pattern t l b.callee) (pattern t l c.callee) (pattern t l d.callee)) ts → labels ≡ map (returned3 b.returns c.returns d.returns) ts
     → Lists u l (zip3 (row (pattern t l) b) (row (pattern t l) c) (row (pattern t l) d)) («to», labels)
 triple_lists t u gt gu l b c d gb gc gd g ts labels h e =
     let all = zip3 (pattern t l b.callee) (pattern t l c.callee) (pattern t l d.callee) in
@@ -48,7 +47,7 @@ triple_lists t u gt gu l b c d gb gc gd g ts labels h e =
     let canon : IsCanon all (pattern u l g.at) ts = subst (λ (m : ℕ). IsCanon all (pattern u m g.at) ts) h.level h.canon in
     record {
       is_row = record { level = h.level; owned = own; labelled = ap length e ∙ length-map ts f ∙ sym canon.reached ∙ (level_holds u gu l).reaches g.at own };
-      labels = row_listed f all (pattern u l g.at) ts labels.items none canon e ∙ sym (zip3_map (exit_at b) (exit_at c) (exit_at d) (pattern t l b.callee) (pattern t l c.callee) (pattern t l d.callee));
+      labels = row_listed f all (pattern u l g.at) ts labels none canon e ∙ sym (zip3_map (exit_at b) (exit_at c) (exit_at d) (pattern t l b.callee) (pattern t l c.callee) (pattern t l d.callee));
       differ = subst (λ (v : List (ℕ × ℕ × ℕ)). AllDiffer v) (sym e)
           (differ_map f (Three (length b.returns) (length c.returns) (length d.returns)) ts none (triples_in t gt l b c d gb gc gd (pattern u l g.at) ts canon)
           (λ x y hx hy q. same_triple x y (gb.once x.0 y.0 hx.0 hy.0 (ap (λ (v : ℕ × ℕ × ℕ). v.0) q)) (gc.once x.1 y.1 hx.1 hy.1 (ap (λ (v : ℕ × ℕ × ℕ). v.1) q)) (gd.once x.2 y.2 hx.2 hy.2 (ap (λ (v : ℕ × ℕ × ℕ). v.2) q)))
@@ -64,7 +63,7 @@ abbrev words_at : Levels → ℕ → ℕ → ℕ → ℕ → ℕ → List (ℕ �
 words_at t k l f g h ms i = triple_word (pattern t l) (node t k f).connections (node t k g).connections (node t k h).connections (get_or ms i none)
 
 -- What the product of three groupings knows: `t` at entry, `u` after the A-callees' product, `v` after the rows.
-pub record Tripling {Z : Type 0} (t u v : Levels) (k l f g h c : ℕ) (ms : List (ℕ × ℕ × ℕ)) (rows : List (Gid × Vec (ℕ × ℕ × ℕ) Z)) : Type 0 where
+pub record Tripling (t u v : Levels) (k l f g h c : ℕ) (ms : List (ℕ × ℕ × ℕ)) (rows : List (Gid × List (ℕ × ℕ × ℕ))) : Type 0 where
   pub good : IsGood t
   pub below : l + 1 ≡ k
   pub first : f < count t k
@@ -136,7 +135,7 @@ triple_words u gu k l f g h p ms e hf hg hh c =
     )
 
 -- the rows spell the triples
-pub tripled : {Z : Type 0} (t u v : Levels) (k l f g h c : ℕ) (ms : List (ℕ × ℕ × ℕ)) (rows : List (Gid × Vec (ℕ × ℕ × ℕ) Z)) → Tripling t u v k l f g h c ms rows → labels_over (pattern v l) c (map row_of rows) ≡ zip3 (pattern t k f) (pattern t k g) (pattern t k h)
+pub tripled : (t u v : Levels) (k l f g h c : ℕ) (ms : List (ℕ × ℕ × ℕ)) (rows : List (Gid × List (ℕ × ℕ × ℕ))) → Tripling t u v k l f g h c ms rows → labels_over (pattern v l) c (map row_of rows) ≡ zip3 (pattern t k f) (pattern t k g) (pattern t k h)
 tripled t u v k l f g h c ms rows w =
     let fu : f < count u k = omega (arith, w.first, w.extends1.more k) in
     let gu : g < count u k = omega (arith, w.second, w.extends1.more k) in
@@ -241,7 +240,7 @@ call_range t u f g h a b c e ms w =
     (subst (λ (i : ℕ). All (Three (length (node u k f.at).connections) (length (node u k g.at).connections) (length (node u i h.at).connections)) ms) (sym w.third_level) r)
 
 -- what is known once the triples' rows were assembled
-pub assembly3 : {Z : Type 0} (t u v w : Levels) (f g h a b c e : Gid) (ms : List (ℕ × ℕ × ℕ)) (rows : List (Gid × Vec (ℕ × ℕ × ℕ) Z)) (r : Gid) (ds : List (ℕ × ℕ × ℕ)) → TripleCall t u f g h a b c e ms → IsGood v → Extends u v
+pub assembly3 : (t u v w : Levels) (f g h a b c e : Gid) (ms : List (ℕ × ℕ × ℕ)) (rows : List (Gid × List (ℕ × ℕ × ℕ))) (r : Gid) (ds : List (ℕ × ℕ × ℕ)) → TripleCall t u f g h a b c e ms → IsGood v → Extends u v
     → ListEach v (f.level - 1) (λ i. triple_word (pattern u (f.level - 1)) (node u f.level f.at).connections (node u g.level g.at).connections (node u h.level h.at).connections (get_or ms i none)) (length ms) rows
     → IsGood w → Extends v w → HasCanon w r (suc e.level) (labels_over (pattern v e.level) e.at (map row_of rows)) ds
     → AddsOnly t u (sub e.level (pattern u e.level e.at)) → AddsOnlyIn u v (f.level - 1) rows → AddsOnly v w (sub r.level (pattern w r.level r.at))

@@ -1,6 +1,5 @@
-use Rattle.std.specs.Prelude.{◌≡◌, ℕ, ◌≤◌, ◌<◌, List, [], map, length, Contains, slice_index_or as get_or}
-use Rattle.std.specs.List.{zip}
-use Rattle.std.specs.declared.vec.Vec.{Vec}
+use Rattle.std.specs.Prelude.{◌≡◌, ℕ, ◌≤◌, ◌<◌, List, [], ◌∷◌, ◌++◌, map, length, Contains, slice_index_or as get_or}
+use Rattle.std.specs.List.{zip, range_with_len}
 use Rattle.cf_model.specs.Renumbering.{AllDiffer}
 use Rattle.cf_model.specs.Patterns.{sub}
 use Rattle.cf_model.specs.Diagrams.{Levels, Connection, count, connection_at, pattern, row, IsGood, Extends}
@@ -9,7 +8,10 @@ use Rattle.cf_table.specs.declared.Gid.{Gid}
 use Rattle.cf_table.specs.declared.BConn.{BConn}
 use Rattle.cf_table.specs.Groupings.{Groupings, connection_of, pattern_of}
 use Rattle.cf_table.specs.Triples.{zip3}
-use Rattle.cf_build.specs.Assembling.{IsRow, HasCanon, AddsOnly, row_of, row_labels}
+use Rattle.cf_build.specs.Assembling.{Rowed, ended, IsRow, HasCanon, AddsOnly, row_of, row_labels}
+use Rattle.cf_pair.specs.declared.plain.Meeting.{Meeting}
+use Rattle.cf_pair.specs.declared.plain.Meeting.TheVariants.{Equal, AfterZero, BeforeZero}
+use Rattle.cf_pair.specs.declared.plain.Plain.{Plain}
 use Rattle.cf_pair.specs.declared.tripling.Place.{Place}
 use Rattle.cf_pair.specs.declared.tripling.Place.TheVariants.{First, Second, Third}
 
@@ -24,6 +26,16 @@ before_zero e = (e, 0)
 -- an exit beside itself
 abbrev pub twice : ℕ → ℕ × ℕ
 twice e = (e, e)
+
+-- the exits that meet at an exit of a product that is one of its two groupings
+abbrev pub met : Meeting → ℕ → ℕ × ℕ
+met Equal e = twice e
+met AfterZero e = after_zero e
+met BeforeZero e = before_zero e
+
+-- the pairs of such a product
+abbrev pub plain_pairs : Plain → List (ℕ × ℕ)
+plain_pairs p = map (met p.meeting) (range_with_len 0 p.exits)
 
 -- the one of three at a place
 abbrev pub at_place : {A : Type 0} → Place → A → A → A → A
@@ -77,24 +89,40 @@ abbrev pub triple_word : (ℕ → List ℕ) → List Connection → List Connect
 triple_word patterns bs cs ds m = zip3 (row patterns (connection_at bs m.0)) (row patterns (connection_at cs m.1)) (row patterns (connection_at ds m.2))
 
 -- A row over level l has these labels over the assignments of the second half, and no label twice.
-pub record Lists {A Z : Type 0} (t : Levels) (l : ℕ) (all : List A) (r : Gid × Vec A Z) : Type 0 where
+pub record Lists {A : Type 0} (t : Levels) (l : ℕ) (all : List A) (r : Gid × List A) : Type 0 where
   pub is_row : IsRow t l r
   pub labels : row_labels (pattern t l) (row_of r) ≡ all
-  pub differ : AllDiffer r.1.items
+  pub differ : AllDiffer r.1
+
+-- One more row came, which has what is asked of it.
+pub record GainsRow {A : Type 0} (before now : Rowed A) (IsAsked : Gid × List A → Type 0) : Type 0 where
+  pub row : Gid × List A
+  pub is_last : now ≡ ended (before.rows ++ row ∷ [])
+  pub is_asked : IsAsked row
+
+-- The row is one of the grouping and lists the labels.
+pub record IsReturned {A : Type 0} (t : Levels) («to» : Gid) (l : ℕ) (all : List A) (r : Gid × List A) : Type 0 where
+  pub head : r.0 ≡ «to»
+  pub lists : Lists t l all r
+
+-- The row lists the labels, and the table has gained only what its grouping is made of.
+pub record IsAdded {A : Type 0} (before now : Levels) (l : ℕ) (all : List A) (r : Gid × List A) : Type 0 where
+  pub lists : Lists now l all r
+  pub added : AddsOnly before now (sub l (pattern now l r.0.at))
 
 -- There are `count` rows, and each has the labels that are wanted at its place.
-pub record ListEach {A Z : Type 0} (t : Levels) (l : ℕ) (wanted : ℕ → List A) (count : ℕ) (rows : List (Gid × Vec A Z)) : Type 0 where
+pub record ListEach {A : Type 0} (t : Levels) (l : ℕ) (wanted : ℕ → List A) (count : ℕ) (rows : List (Gid × List A)) : Type 0 where
   pub long : length rows ≡ count
-  pub each : (i : ℕ) (d : Gid × Vec A Z) → i < count → Lists t l (wanted i) (get_or rows i d)
+  pub each : (i : ℕ) (d : Gid × List A) → i < count → Lists t l (wanted i) (get_or rows i d)
 
 -- Each grouping that the table has now and hadn't before has a pattern that one of the rows' groupings is made of.
-abbrev pub AddsOnlyIn : {A Z : Type 0} → Levels → Levels → ℕ → List (Gid × Vec A Z) → Type 0
+abbrev pub AddsOnlyIn : {A : Type 0} → Levels → Levels → ℕ → List (Gid × List A) → Type 0
 AddsOnlyIn before now l rows =
     (k j : ℕ) → count before k ≤ j → j < count now k
     → (m : ℕ) × (m < length rows) × Contains (sub l (pattern now l (get_or (map row_of rows) m (0, [])).0)) (record { level = k; ranks = pattern now k j })
 
 -- The first `done` rows list what is wanted, and the table has gained only what they are made of.
-pub record HasListed {A Z : Type 0} (before now : Groupings) (l : ℕ) (wanted : ℕ → List A) (done : ℕ) (rows : List (Gid × Vec A Z)) : Type 0 where
+pub record HasListed {A : Type 0} (before now : Groupings) (l : ℕ) (wanted : ℕ → List A) (done : ℕ) (rows : List (Gid × List A)) : Type 0 where
   pub good : IsGood now.levels
   pub extends : Extends before.levels now.levels
   pub longer : Lengthens before.tuples now.tuples

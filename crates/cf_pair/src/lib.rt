@@ -2,6 +2,7 @@
 #![tactic(auto)]
 
 mod pairing;
+mod plain;
 mod tripling;
 
 ghost use Rattle.std.specs.Prelude.{◌≡◌, ◌<◌, ◌≤◌, ◌+◌, ◌*◌, length, IfOk};

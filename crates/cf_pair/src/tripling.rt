@@ -1,18 +1,17 @@
 //! The recursion of the triple product, as that of the pair product.
 
-ghost use Rattle.std.specs.Prelude.{◌≡◌, ◌≢◌, ◌<◌, ◌≤◌, ◌-◌, length, map, All, false, IfOk, IfSome, MatchOption, slice_index_or};
+ghost use Rattle.std.specs.Prelude.{◌≡◌, ◌≢◌, ◌<◌, ◌≤◌, ◌-◌, ◌++◌, [], length, map, All, false, IfOk, IfSome, OnOk, MatchOption, slice_index_or};
 ghost use Rattle.std.specs.List.{zip};
-ghost use Rattle.cf_model.specs.Patterns.{sub};
 ghost use Rattle.cf_model.specs.Diagrams.{pattern, IsGood, Extends};
 ghost use Rattle.cf_tuple.specs.Books.{Lengthens};
 ghost use Rattle.cf_table.specs.Groupings.{Owns, node_of, pattern_of, exits_of};
 ghost use Rattle.cf_table.specs.Goodness.{IsGoodOver};
-ghost use Rattle.cf_build.specs.Assembling.{HasCanon, AddsOnly};
+ghost use Rattle.cf_build.specs.Assembling.{HasCanon};
 ghost use Rattle.cf_table.specs.Triples.{zip3};
-ghost use Rattle.cf_pair.specs.Products.{at_place, zero_put, returned3, row_triples, triple_word, IsTriplesOf, AddsPartsOf, Lists, ListEach, AddsOnlyIn};
+ghost use Rattle.cf_pair.specs.Products.{at_place, zero_put, returned3, row_triples, triple_word, IsTriplesOf, AddsPartsOf, ListEach, AddsOnlyIn, GainsRow, IsReturned, IsAdded};
 
 use crate::pairing::pair_groupings;
-use cf_build::assemble;
+use cf_build::{Rows, assemble_rows};
 use cf_table::steps::Steps;
 use cf_table::{BConn, DONT_CARE, FORK, Gid, Table};
 use cf_tuple::NoMemory;
@@ -160,57 +159,59 @@ fn beside_constant<L: Ledger>(
     }
 }
 
-fn returned_triples(
-    alloc: Global,
+/// Appends to a row the outer exits to which triples of exits return.
+fn push_triples(
+    rows: &mut Rows<(u64, u64, u64)>,
     triples: &[(u64, u64, u64)],
     left: &[u64],
     middle: &[u64],
     right: &[u64],
-) -> Result<Vec<(u64, u64, u64)>, NoMemory>
+) -> Result<(), NoMemory>
     requires within { All (λ t.
         (t.0 < length left.now) × (t.1 < length middle.now) × (t.2 < length right.now)) triples.now }
-    ensures { IfOk result
-        (λ v. v.items ≡ map (returned3 left.now middle.now right.now) triples.now) }
+    ensures { OnOk result (rows.new ≡ record rows.old {
+      begun = rows.old.begun ++ map (returned3 left.now middle.now right.now) triples.now;
+    }) }
 {
-    let mut returned = Vec::with_capacity(alloc, triples.len())?;
     for i in 0..triples.len() {
         let triple = triples[i];
-        returned.push((
+        rows.push_label((
             left[triple.0 as usize],
             middle[triple.1 as usize],
             right[triple.2 as usize],
         ))?;
     }
-    Ok(returned)
+    Ok(())
 }
 
-/// The row to which the return tuples of three B-connections map the product of their callees.
-fn returned_row(
-    alloc: Global,
+/// Appends the row to which the return tuples of three B-connections map the product of their
+/// callees.
+fn push_returned(
     table: &Table,
     to: Gid,
     triples: &[(u64, u64, u64)],
     x: BConn,
     y: BConn,
     z: BConn,
-) -> Result<(Gid, Vec<(u64, u64, u64)>), NoMemory>
+    rows: &mut Rows<(u64, u64, u64)>,
+) -> Result<(), NoMemory>
     requires good { IsGood table.now.levels }
     requires first { IsGoodOver table.now x.«to».level x }
     requires second { IsGoodOver table.now x.«to».level y }
     requires third { IsGoodOver table.now x.«to».level z }
     requires product { IsTriplesOf table.now table.now x.«to» y.«to» z.«to» «to» triples.now }
-    ensures head { IfOk result (λ r. r.0 ≡ «to») }
-    ensures row { IfOk result
-        (λ r. Lists table.now.levels x.«to».level (row_triples table.now x y z) r) }
+    requires ended { rows.old.begun ≡ [] }
+    ensures { OnOk result (GainsRow rows.old rows.new
+        (IsReturned table.now.levels «to» x.«to».level (row_triples table.now x y z))) }
 {
-    let labels = returned_triples(
-        alloc,
+    push_triples(
+        rows,
         triples,
         table.tuple(x.ret),
         table.tuple(y.ret),
         table.tuple(z.ret),
     )?;
-    Ok((to, labels))
+    rows.end_row(to)
 }
 
 /// The product of three groupings of one level, if the memo has it.
@@ -228,31 +229,6 @@ fn kept_product(
         Some(product) => {
             let triples = Vec::from_slice(alloc, product.triples.as_slice())?;
             Ok(Some((product.head, triples)))
-        }
-        None => Ok(None),
-    }
-}
-
-/// The row of three B-connections, if the memo has the product of their callees.
-fn kept_row(
-    alloc: Global,
-    table: &Table,
-    x: BConn,
-    y: BConn,
-    z: BConn,
-) -> Result<Option<(Gid, Vec<(u64, u64, u64)>)>, NoMemory>
-    requires good { IsGood table.now.levels }
-    requires first { IsGoodOver table.now x.«to».level x }
-    requires second { IsGoodOver table.now x.«to».level y }
-    requires third { IsGoodOver table.now x.«to».level z }
-    ensures { IfOk result (λ o. IfSome o
-        (λ r. Lists table.now.levels x.«to».level (row_triples table.now x y z) r)) }
-{
-    match table.triple_of(x.to, y.to, z.to) {
-        Some(product) => {
-            let triples = product.triples.as_slice();
-            let row = returned_row(alloc, table, product.head, triples, x, y, z)?;
-            Ok(Some(row))
         }
         None => Ok(None),
     }
@@ -335,10 +311,10 @@ fn triple_parts<L: Ledger>(
     let c = table.a_of(h, steps);
     let (callee, middles) = triple_groupings(alloc, table, a, b, c, steps)?;
     let rows = triple_rows(alloc, table, f, g, h, middles.as_slice(), steps)?;
-    assemble(alloc, table, callee, rows.as_slice())
+    assemble_rows(alloc, table, callee, &rows)
 }
 
-/// The row of three middle vertices, by their B-connections.
+/// Appends the row of three middle vertices, by their B-connections.
 #[cycle(triple)]
 fn triple_row<L: Ledger>(
     alloc: Global,
@@ -346,32 +322,39 @@ fn triple_row<L: Ledger>(
     x: BConn,
     y: BConn,
     z: BConn,
+    rows: &mut Rows<(u64, u64, u64)>,
     steps: &mut Steps<L>,
-) -> Result<(Gid, Vec<(u64, u64, u64)>), NoMemory>
+) -> Result<(), NoMemory>
     requires level { x.«to».level ≤ 6 }
     requires good { IsGood table.old.levels }
     requires first { IsGoodOver table.old x.«to».level x }
     requires second { IsGoodOver table.old x.«to».level y }
     requires third { IsGoodOver table.old x.«to».level z }
-    ensures row { IfOk result
-        (λ r. Lists table.new.levels x.«to».level (row_triples table.old x y z) r) }
-    ensures added { IfOk result (λ r. AddsOnly table.old.levels table.new.levels
-        (sub x.«to».level (pattern table.new.levels x.«to».level r.0.at))) }
+    requires ended { rows.old.begun ≡ [] }
+    ensures row { OnOk result (GainsRow rows.old rows.new
+        (IsAdded table.old.levels table.new.levels x.«to».level (row_triples table.old x y z))) }
     ensures good { IsGood table.new.levels }
     ensures extends { Extends table.old.levels table.new.levels }
     ensures longer { Lengthens table.old.tuples table.new.tuples }
 {
     if is_plain(table, x.to, y.to, z.to) {
         let (to, triples) = triple_groupings(alloc, table, x.to, y.to, z.to, steps)?;
-        return returned_row(alloc, table, to, triples.as_slice(), x, y, z);
+        return push_returned(table, to, triples.as_slice(), x, y, z, rows);
     }
-    if let Some(row) = kept_row(alloc, table, x, y, z)? {
-        return Ok(row);
+    if let Some(product) = table.triple_of(x.to, y.to, z.to) {
+        return push_returned(
+            table,
+            product.head,
+            product.triples.as_slice(),
+            x,
+            y,
+            z,
+            rows,
+        );
     }
     let (to, triples) = triple_parts(alloc, table, x.to, y.to, z.to, steps)?;
-    let row = returned_row(alloc, table, to, triples.as_slice(), x, y, z)?;
-    table.keep_triple(x.to, y.to, z.to, to, triples)?;
-    Ok(row)
+    push_returned(table, to, triples.as_slice(), x, y, z, rows)?;
+    table.keep_triple(x.to, y.to, z.to, to, triples)
 }
 
 /// A row for each three middle vertices.
@@ -384,7 +367,7 @@ fn triple_rows<L: Ledger>(
     h: Gid,
     middles: &[(u64, u64, u64)],
     steps: &mut Steps<L>,
-) -> Result<Vec<(Gid, Vec<(u64, u64, u64)>)>, NoMemory>
+) -> Result<Rows<(u64, u64, u64)>, NoMemory>
     requires above { 1 ≤ f.level }
     requires level { f.level ≤ 7 }
     requires second_level { g.level ≡ f.level }
@@ -403,21 +386,21 @@ fn triple_rows<L: Ledger>(
         (node_of table.old g).connections
         (node_of table.old h).connections
         (slice_index_or middles.now i (0, 0, 0)))
-        (length middles.now) v.items) }
+        (length middles.now) v.rows) }
+    ensures ended { IfOk result (λ v. v.begun ≡ []) }
     ensures added { IfOk result (λ v.
-        AddsOnlyIn table.old.levels table.new.levels (f.level - 1) v.items) }
+        AddsOnlyIn table.old.levels table.new.levels (f.level - 1) v.rows) }
     ensures good { IsGood table.new.levels }
     ensures extends { Extends table.old.levels table.new.levels }
     ensures longer { Lengthens table.old.tuples table.new.tuples }
 {
-    let mut rows = Vec::with_capacity(alloc, middles.len())?;
+    let mut rows = Rows::new(alloc, middles.len())?;
     for i in 0..middles.len() {
         let middle = middles[i];
         let x = table.b_of(f, middle.0, steps);
         let y = table.b_of(g, middle.1, steps);
         let z = table.b_of(h, middle.2, steps);
-        let row = triple_row(alloc, table, x, y, z, steps)?;
-        rows.push(row)?;
+        triple_row(alloc, table, x, y, z, &mut rows, steps)?;
     }
     Ok(rows)
 }

@@ -9,20 +9,22 @@ use Rattle.cf_model.proofs.Canonicity.{level_holds}
 use Rattle.cf_model.proofs.Growing.{exits_kept}
 use Rattle.cf_table.specs.Groupings.{connection_of, patterns_of}
 use Rattle.cf_table.specs.Goodness.{IsGoodOver}
-use Rattle.cf_build.specs.Assembling.{IsRow, HasCanon, AddsOnly}
+use Rattle.cf_build.specs.Assembling.{Rowed, IsRow, HasCanon, AddsOnly}
 use Rattle.cf_build.proofs.Turns.{if_ok2}
 use Rattle.cf_pair.specs.Products.{pair_word, Lists, ListEach, AddsOnlyIn}
 use Rattle.cf_pair.specs.Charges.{IsCharged, pair_work}
 use Rattle.cf_pair.proofs.Bounds.{charged_none, charged_then, charged_weaker, middles_fit, callee_charged, two_paid, rows_charged, row_parts, failed}
+use Rattle.cf_pair.proofs.Pushing.{gains_so}
+use Rattle.std.proofs.lemmas.Result.{on_ok_weaker}
 use Rattle.cf_pair.proofs.Zips.{Both}
-use Rattle.cf_pair.proofs.Rows.{listed_more}
+use Rattle.cf_pair.proofs.Rows.{listed_more, listed_none}
 use Rattle.cf_pair.proofs.Pairs.{read_good, read_row, middles_canon, middles_in, level_with, PairCall, assembly}
 use Rattle.cf_table.specs.declared.Gid.{Gid}
 use Rattle.cf_table.specs.Groupings.{IsProduct}
 use Rattle.cf_table.proofs.Told.{none_of}
 use Rattle.cf_pair.specs.Charges.{IsUnknown}
-use Rattle.cf_pair.specs.Products.{connection_row}
-use Rattle.cf_pair.proofs.Keeping.{good_over_kept, row_kept, canon_kept, is_product, still_unknown, charged_failed, charged_kept}
+use Rattle.cf_pair.specs.Products.{connection_row, row_pairs, GainsRow, IsAdded}
+use Rattle.cf_pair.proofs.Keeping.{good_over_kept, row_kept, canon_kept, is_product, still_unknown, charged_failed, charged_kept, charged_whole}
 use Rattle.cf_pair.proofs.pairing.+pair.Goals as goal
 
 pub pair_rows-pair_row-requires : goal.pair_rows-pair_row-requires
@@ -62,18 +64,20 @@ pair_rows-loop-i-preserved g t c =
     let lev : b.«to».level ≡ l = omega (arith, c.b_of-b.ensures.level) in
     let eb = read_row old now c.requires.good x k l c.args.g.at m.0 below c.requires.first in_.0 b c.b_of-b.ensures.connection in
     let ed = read_row old now c.requires.good x c.args.h.level l c.args.h.at m.1 below_h c.requires.second in_.1 d c.b_of-c.ensures.connection in
-    let r = c.in_ok-row.row in
+    let gained = c.in_ok-pair_row.ensures.row in
+    let r = gained.row in
     let lists : Lists new.levels l (zip (row (pattern now.levels l) (connection_of now.tuples b)) (row (pattern now.levels l) (connection_of now.tuples d))) r =
-    subst (λ (i : ℕ). Lists new.levels i (zip (row (pattern now.levels i) (connection_of now.tuples b)) (row (pattern now.levels i) (connection_of now.tuples d))) r) lev c.in_ok-row.ensures.row in
+    subst (λ (i : ℕ). Lists new.levels i (zip (row (pattern now.levels i) (connection_of now.tuples b)) (row (pattern now.levels i) (connection_of now.tuples d))) r) lev gained.is_asked.lists in
     let wanted : Lists new.levels l (pair_word (pattern old.levels l) (node old.levels k c.args.g.at).connections (node old.levels c.args.h.level c.args.h.at).connections m) r =
     subst (λ (v : List (ℕ × ℕ)). Lists new.levels l v r) (ap (λ (v : List ℕ). zip v (row (pattern now.levels l) (connection_of now.tuples d))) eb ∙ ap (λ (v : List ℕ). zip (row (pattern old.levels l) (connection_at (node old.levels k c.args.g.at).connections m.0)) v) ed) lists in
-    let added : AddsOnly now.levels new.levels (sub l (pattern new.levels l r.0.at)) = subst (λ (i : ℕ). AddsOnly now.levels new.levels (sub i (pattern new.levels i r.0.at))) lev c.in_ok-row.ensures.added in
+    let added : AddsOnly now.levels new.levels (sub l (pattern new.levels l r.0.at)) = subst (λ (i : ℕ). AddsOnly now.levels new.levels (sub i (pattern new.levels i r.0.at))) lev gained.is_asked.added in
     record {
-      listed = listed_more old now new l (λ i. pair_word (pattern old.levels l) (node old.levels k c.args.g.at).connections (node old.levels c.args.h.level c.args.h.at).connections (get_or c.args.middles.now i (0, 0))) c.loop-i.i c.loop-i.rows.items c.push.new.self.items r c.loop-i.invariant.listed wanted added
-          c.in_ok-row.ensures.good c.in_ok-row.ensures.extends c.in_ok-row.ensures.longer c.in_ok-push.ensures.items;
+      listed = listed_more old now new l (λ i. pair_word (pattern old.levels l) (node old.levels k c.args.g.at).connections (node old.levels c.args.h.level c.args.h.at).connections (get_or c.args.middles.now i (0, 0))) c.loop-i.i c.loop-i.rows.rows c.pair_row.new.rows.rows r c.loop-i.invariant.listed wanted added
+          c.in_ok-pair_row.ensures.good c.in_ok-pair_row.ensures.extends c.in_ok-pair_row.ensures.longer (ap (λ (s : Rowed (ℕ × ℕ)). s.rows) gained.is_last);
+      ended = ap (λ (s : Rowed (ℕ × ℕ)). s.begun) gained.is_last;
       charged = (let inv = c.loop-i.invariant.charged in
           charged_then old.products now.products new.products (patterns_of old.levels c.args.g c.args.h).0 (patterns_of old.levels c.args.g c.args.h).1 (patterns_of now.levels b.«to» d.«to»).0 (patterns_of now.levels b.«to» d.«to»).1 k (suc b.«to».level) (2 * (c.loop-i.i + 1)) (2 * c.loop-i.i) 0
-          c.args.steps.now c.loop-i.steps c.b_of-c.new.steps c.pair_row.new.steps true inv c.in_ok-row.ensures.charged
+          c.args.steps.now c.loop-i.steps c.b_of-c.new.steps c.pair_row.new.steps true inv c.in_ok-pair_row.ensures.charged
           (row_parts old now c.requires.good x c.args.g c.args.h b d m c.requires.first c.requires.second in_ c.b_of-b.ensures.level c.b_of-c.ensures.level c.b_of-b.ensures.connection c.b_of-c.ensures.connection)
           (omega (arith, c.b_of-b.ensures.ticks, c.b_of-c.ensures.ticks)));
     }
@@ -105,22 +109,21 @@ pair_parts-pair_rows-requires g t c κs within =
     let falls : 4 * k - 2 < 4 * k - 1 = omega (arith, positive) in
     search rules
 
-pub pair_parts-assemble-requires-clause-middles : goal.pair_parts-assemble-requires-clause-middles
-pair_parts-assemble-requires-clause-middles g t c =
+pub pair_parts-assemble_rows-requires-clause-middles : goal.pair_parts-assemble_rows-requires-clause-middles
+pair_parts-assemble_rows-requires-clause-middles g t c =
     let new = c.pair_groupings.new.table.levels in
     let e = c.in_ok-callee.callee in
     let p = c.in_ok-callee.ensures.paired in
-    ap length c.as_slice-2.ensures.value ∙ c.in_ok-rows.ensures.rows.long ∙ ap length c.as_slice.ensures.value ∙ sym p.canon.reached
+    c.in_ok-rows.ensures.rows.long ∙ ap length c.as_slice.ensures.value ∙ sym p.canon.reached
     ∙ (level_holds new c.in_ok-callee.ensures.good e.level).reaches e.at p.there ∙ sym (exits_kept new c.pair_rows.new.table.levels c.in_ok-rows.ensures.extends e.level e.at p.there)
 
-pub pair_parts-assemble-requires-clause-rows : goal.pair_parts-assemble-requires-clause-rows
-pair_parts-assemble-requires-clause-rows g t c k d lk =
+pub pair_parts-assemble_rows-requires-clause-rows : goal.pair_parts-assemble_rows-requires-clause-rows
+pair_parts-assemble_rows-requires-clause-rows g t c k d lk =
     let v = c.pair_rows.new.table.levels in
-    let q = c.as_slice-2.ensures.value in
     let w = c.in_ok-rows.ensures.rows in
-    let r = (w.each k d (omega (arith, lk, ap length q, w.long))).is_row in
+    let r = (w.each k d (omega (arith, lk, w.long))).is_row in
     let lev : c.args.g.level - 1 ≡ c.in_ok-callee.callee.level = omega (arith, c.in_ok-callee.ensures.paired.level, c.a_of-a.ensures.level) in
-    subst (λ (l : ℕ). IsRow v l (get_or c.as_slice-2.result.now k d)) lev (subst (λ (x : _). IsRow v (c.args.g.level - 1) (get_or x k d)) (sym q) r)
+    subst (λ (l : ℕ). IsRow v l (get_or c.in_ok-rows.rows.rows k d)) lev r
 
 pub pair_parts-returns-clause-paired : goal.pair_parts-returns-clause-paired
 pair_parts-returns-clause-paired g t c =
@@ -128,7 +131,7 @@ pair_parts-returns-clause-paired g t c =
     let new = c.pair_groupings.new.table.levels in
     let v = c.pair_rows.new.table.levels in
     let ms = c.as_slice.result.now in
-    let rows = c.as_slice-2.result.now in
+    let rows = c.in_ok-rows.rows.rows in
     let l = c.args.g.level - 1 in
     let w : PairCall old new v c.args.g c.args.h c.a_of-a.result c.a_of-b.result c.in_ok-callee.callee ms rows = record {
       good = c.requires.good;
@@ -145,11 +148,11 @@ pair_parts-returns-clause-paired g t c =
       canon = subst (λ (x : List (ℕ × ℕ)). HasCanon new c.in_ok-callee.callee c.a_of-a.result.level (zip (pattern old c.a_of-a.result.level c.a_of-a.result.at) (pattern old c.a_of-b.result.level c.a_of-b.result.at)) x) (sym c.as_slice.ensures.value) c.in_ok-callee.ensures.paired;
       good2 = c.in_ok-rows.ensures.good;
       extends2 = c.in_ok-rows.ensures.extends;
-      listed = subst (λ (x : _). ListEach v l (λ i. pair_word (pattern new l) (node new c.args.g.level c.args.g.at).connections (node new c.args.h.level c.args.h.at).connections (get_or ms i (0, 0))) (length ms) x) (sym c.as_slice-2.ensures.value) c.in_ok-rows.ensures.rows;
+      listed = c.in_ok-rows.ensures.rows;
     } in
-    let added : AddsOnlyIn new v l rows = subst (λ (x : _). AddsOnlyIn new v l x) (sym c.as_slice-2.ensures.value) c.in_ok-rows.ensures.added in
-    if_ok2 c.assemble.result _ _ _ c.assemble.ensures.assembled c.assemble.ensures.added
-    (λ r s x. (assembly old new v c.assemble.new.table.levels c.args.g c.args.h c.a_of-a.result c.a_of-b.result c.in_ok-callee.callee ms rows r.0 r.1.items w c.assemble.ensures.good c.assemble.ensures.kept s c.in_ok-callee.ensures.added added x).0)
+    let added : AddsOnlyIn new v l rows = c.in_ok-rows.ensures.added in
+    if_ok2 c.assemble_rows.result _ _ _ c.assemble_rows.ensures.assembled c.assemble_rows.ensures.added
+    (λ r s x. (assembly old new v c.assemble_rows.new.table.levels c.args.g c.args.h c.a_of-a.result c.a_of-b.result c.in_ok-callee.callee ms rows r.0 r.1.items w c.assemble_rows.ensures.good c.assemble_rows.ensures.kept s c.in_ok-callee.ensures.added added x).0)
 
 pub pair_parts-returns-clause-added : goal.pair_parts-returns-clause-added
 pair_parts-returns-clause-added g t c =
@@ -157,7 +160,7 @@ pair_parts-returns-clause-added g t c =
     let new = c.pair_groupings.new.table.levels in
     let v = c.pair_rows.new.table.levels in
     let ms = c.as_slice.result.now in
-    let rows = c.as_slice-2.result.now in
+    let rows = c.in_ok-rows.rows.rows in
     let l = c.args.g.level - 1 in
     let w : PairCall old new v c.args.g c.args.h c.a_of-a.result c.a_of-b.result c.in_ok-callee.callee ms rows = record {
       good = c.requires.good;
@@ -174,11 +177,11 @@ pair_parts-returns-clause-added g t c =
       canon = subst (λ (x : List (ℕ × ℕ)). HasCanon new c.in_ok-callee.callee c.a_of-a.result.level (zip (pattern old c.a_of-a.result.level c.a_of-a.result.at) (pattern old c.a_of-b.result.level c.a_of-b.result.at)) x) (sym c.as_slice.ensures.value) c.in_ok-callee.ensures.paired;
       good2 = c.in_ok-rows.ensures.good;
       extends2 = c.in_ok-rows.ensures.extends;
-      listed = subst (λ (x : _). ListEach v l (λ i. pair_word (pattern new l) (node new c.args.g.level c.args.g.at).connections (node new c.args.h.level c.args.h.at).connections (get_or ms i (0, 0))) (length ms) x) (sym c.as_slice-2.ensures.value) c.in_ok-rows.ensures.rows;
+      listed = c.in_ok-rows.ensures.rows;
     } in
-    let added : AddsOnlyIn new v l rows = subst (λ (x : _). AddsOnlyIn new v l x) (sym c.as_slice-2.ensures.value) c.in_ok-rows.ensures.added in
-    if_ok2 c.assemble.result _ _ _ c.assemble.ensures.assembled c.assemble.ensures.added
-    (λ r s x. (assembly old new v c.assemble.new.table.levels c.args.g c.args.h c.a_of-a.result c.a_of-b.result c.in_ok-callee.callee ms rows r.0 r.1.items w c.assemble.ensures.good c.assemble.ensures.kept s c.in_ok-callee.ensures.added added x).1)
+    let added : AddsOnlyIn new v l rows = c.in_ok-rows.ensures.added in
+    if_ok2 c.assemble_rows.result _ _ _ c.assemble_rows.ensures.assembled c.assemble_rows.ensures.added
+    (λ r s x. (assembly old new v c.assemble_rows.new.table.levels c.args.g c.args.h c.a_of-a.result c.a_of-b.result c.in_ok-callee.callee ms rows r.0 r.1.items w c.assemble_rows.ensures.good c.assemble_rows.ensures.kept s c.in_ok-callee.ensures.added added x).1)
 
 pub pair_parts-returns-in_err-callee-clause-charged : goal.pair_parts-returns-in_err-callee-clause-charged
 pair_parts-returns-in_err-callee-clause-charged g t c =
@@ -222,23 +225,26 @@ pair_parts-returns-clause-charged g t c =
     let canon = subst (λ (x : List (ℕ × ℕ)). HasCanon new.levels c.in_ok-callee.callee a.result.level (zip (pattern old.levels a.result.level a.result.at) (pattern old.levels b.result.level b.result.at)) x) (sym c.as_slice.ensures.value) q.paired in
     let fit = middles_fit old.levels new.levels c.args.g c.args.h a.result b.result c.in_ok-callee.callee ms c.requires.good q.good q.extends c.requires.above c.requires.levels c.requires.first c.requires.second a.ensures.level a.ensures.callee b.ensures.level b.ensures.callee canon in
     let first = callee_charged old new.products c.args.g c.args.h a.result b.result c.args.steps.now b.new.steps c.pair_groupings.new.steps true c.requires.good c.requires.first c.requires.second a.ensures.level a.ensures.callee b.ensures.level b.ensures.callee (omega (arith, a.ensures.ticks, b.ensures.ticks)) q.charged in
-    charged_weaker old.products c.assemble.new.table.products k.0 k.1 c.args.g.level (2 * pair_work k) (2 * pair_work k) c.args.steps.now c.pair_rows.new.steps true (is_ok c.assemble.result)
-    (subst (λ (n : List (Pattern × Pattern)). IsCharged old.products n k.0 k.1 c.args.g.level (2 * pair_work k) c.args.steps.now c.pair_rows.new.steps true) (sym c.assemble.ensures.products)
+    charged_weaker old.products c.assemble_rows.new.table.products k.0 k.1 c.args.g.level (2 * pair_work k) (2 * pair_work k) c.args.steps.now c.pair_rows.new.steps true (is_ok c.assemble_rows.result)
+    (subst (λ (n : List (Pattern × Pattern)). IsCharged old.products n k.0 k.1 c.args.g.level (2 * pair_work k) c.args.steps.now c.pair_rows.new.steps true) (sym c.assemble_rows.ensures.products)
     (rows_charged old new c.pair_rows.new.table.products c.args.g c.args.h ms c.args.steps.now c.pair_groupings.new.steps c.pair_rows.new.steps true c.requires.good q.good q.extends c.requires.above c.requires.levels c.requires.first c.requires.second fit first c.in_ok-rows.ensures.charged))
     (omega arith)
     (λ e. refl)
 
 pub pair_rows-loop-i-init : goal.pair_rows-loop-i-init
-pair_rows-loop-i-init g t c = record {
-  listed = search rules;
-  charged = charged_none _ _ _ _ _ _ _ _ _ refl (omega arith);
-}
+pair_rows-loop-i-init g t c =
+    let none = c.in_ok-rows.ensures in
+    record {
+      listed = listed_none _ _ _ _ c.requires.good (ap (λ (s : Rowed (ℕ × ℕ)). s.rows) none);
+      ended = ap (λ (s : Rowed (ℕ × ℕ)). s.begun) none;
+      charged = charged_none _ _ _ _ _ _ _ _ _ refl (omega arith);
+    }
 
 pub pair_rows-returns-in_err-rows-clause-charged : goal.pair_rows-returns-in_err-rows-clause-charged
 pair_rows-returns-in_err-rows-clause-charged g t c = charged_none _ _ _ _ _ _ _ _ _ refl (omega arith)
 
-pub pair_rows-returns-in_err-row-clause-charged : goal.pair_rows-returns-in_err-row-clause-charged
-pair_rows-returns-in_err-row-clause-charged g t c =
+pub pair_rows-returns-in_err-pair_row-clause-charged : goal.pair_rows-returns-in_err-pair_row-clause-charged
+pair_rows-returns-in_err-pair_row-clause-charged g t c =
     let old = c.args.table.now in
     let now = c.loop-i.table in
     let x = c.loop-i.invariant.listed.extends in
@@ -249,31 +255,12 @@ pair_rows-returns-in_err-row-clause-charged g t c =
     let k = patterns_of old.levels c.args.g c.args.h in
     let q = patterns_of now.levels b.result.«to» d.result.«to» in
     let own = 2 * length c.args.middles.now in
-    charged_weaker old.products c.pair_row.new.table.products k.0 k.1 c.args.g.level own own c.args.steps.now c.pair_row.new.steps false (is_ok c.from_residual-in_err-row.result)
-    (charged_then old.products now.products c.pair_row.new.table.products k.0 k.1 q.0 q.1 c.args.g.level (suc b.result.«to».level) own (2 * c.loop-i.i) 0 c.args.steps.now c.loop-i.steps d.new.steps c.pair_row.new.steps false c.loop-i.invariant.charged c.in_err-row.ensures.charged
+    charged_weaker old.products c.pair_row.new.table.products k.0 k.1 c.args.g.level own own c.args.steps.now c.pair_row.new.steps false (is_ok c.from_residual-in_err-pair_row.result)
+    (charged_then old.products now.products c.pair_row.new.table.products k.0 k.1 q.0 q.1 c.args.g.level (suc b.result.«to».level) own (2 * c.loop-i.i) 0 c.args.steps.now c.loop-i.steps d.new.steps c.pair_row.new.steps false c.loop-i.invariant.charged c.in_err-pair_row.ensures.charged
     (row_parts old now c.requires.good x c.args.g c.args.h b.result d.result m c.requires.first c.requires.second in_ b.ensures.level d.ensures.level b.ensures.connection d.ensures.connection)
     (omega (arith, b.ensures.ticks, d.ensures.ticks, c.loop-i-test.true)))
     (omega arith)
-    (λ e. absurd (failed c.from_residual-in_err-row.result c.from_residual-in_err-row.ensures.0 e))
-
-pub pair_rows-returns-in_err-push-clause-charged : goal.pair_rows-returns-in_err-push-clause-charged
-pair_rows-returns-in_err-push-clause-charged g t c =
-    let old = c.args.table.now in
-    let now = c.loop-i.table in
-    let x = c.loop-i.invariant.listed.extends in
-    let m = get_or c.args.middles.now c.loop-i.i (0, 0) in
-    let in_ = c.requires.middles c.loop-i.i (0, 0) c.loop-i-test.true in
-    let b = c.b_of-b in
-    let d = c.b_of-c in
-    let k = patterns_of old.levels c.args.g c.args.h in
-    let q = patterns_of now.levels b.result.«to» d.result.«to» in
-    let own = 2 * length c.args.middles.now in
-    charged_weaker old.products c.pair_row.new.table.products k.0 k.1 c.args.g.level own own c.args.steps.now c.pair_row.new.steps true _
-    (charged_then old.products now.products c.pair_row.new.table.products k.0 k.1 q.0 q.1 c.args.g.level (suc b.result.«to».level) own (2 * c.loop-i.i) 0 c.args.steps.now c.loop-i.steps d.new.steps c.pair_row.new.steps true c.loop-i.invariant.charged c.in_ok-row.ensures.charged
-    (row_parts old now c.requires.good x c.args.g c.args.h b.result d.result m c.requires.first c.requires.second in_ b.ensures.level d.ensures.level b.ensures.connection d.ensures.connection)
-    (omega (arith, b.ensures.ticks, d.ensures.ticks, c.loop-i-test.true)))
-    (omega arith)
-    (λ e. refl)
+    (λ e. absurd (failed c.from_residual-in_err-pair_row.result c.from_residual-in_err-pair_row.ensures.0 e))
 
 pub pair_groupings-returns-in_err-product-clause-charged : goal.pair_groupings-returns-in_err-product-clause-charged
 pair_groupings-returns-in_err-product-clause-charged g t c = charged_none _ _ _ _ _ _ _ _ _ refl (omega arith)
@@ -316,19 +303,27 @@ pair_groupings-returns-clause-charged g t c =
     let unknown : IsUnknown c.args.table.now c.args.g c.args.h = none_of c.in_ok-product.field-0 _ _ c.in_default.not-Some c.in_ok-product.ensures in
     charged_kept c.args.table.now c.pair_parts.new.table c.keep_product.new.self.products c.requires.good c.in_ok-head.ensures.extends c.args.g c.args.h c.requires.first c.requires.second c.args.steps.now c.pair_parts.new.steps unknown.new c.in_ok-head.ensures.charged c.in_ok-keep_product.ensures.kept
 
-pub pair_row-returns-in_err-row-clause-charged : goal.pair_row-returns-in_err-row-clause-charged
-pair_row-returns-in_err-row-clause-charged g t c = charged_none _ _ _ _ _ _ _ _ _ refl (omega arith)
+pub pair_row-returns-in-Some-clause-row : goal.pair_row-returns-in-Some-clause-row
+pair_row-returns-in-Some-clause-row g t c =
+    on_ok_weaker c.push_plain.result (gains_so _ _ c.args.rows.now c.push_plain.new.rows (λ r h. record { lists = h.lists; added = λ k j ge lt. absurd (omega (arith, ge, lt)) })) c.push_plain.ensures
 
 pub pair_row-returns-in-Some-clause-charged : goal.pair_row-returns-in-Some-clause-charged
 pair_row-returns-in-Some-clause-charged g t c = charged_none _ _ _ _ _ _ _ _ _ refl (omega arith)
 
+pub pair_row-returns-in-Some-product_of-clause-row : goal.pair_row-returns-in-Some-product_of-clause-row
+pair_row-returns-in-Some-product_of-clause-row g t c =
+    on_ok_weaker c.push_returned.result (gains_so _ _ c.args.rows.now c.push_returned.new.rows (λ r h. record { lists = h.lists; added = λ k j ge lt. absurd (omega (arith, ge, lt)) })) c.push_returned.ensures
+
+pub pair_row-returns-in-Some-product_of-clause-charged : goal.pair_row-returns-in-Some-product_of-clause-charged
+pair_row-returns-in-Some-product_of-clause-charged g t c = charged_none _ _ _ _ _ _ _ _ _ refl (omega arith)
+
 pub pair_row-returns-in_err-to-clause-charged : goal.pair_row-returns-in_err-to-clause-charged
 pair_row-returns-in_err-to-clause-charged g t c =
-    let unknown : IsUnknown c.args.table.now c.args.b.«to» c.args.c.«to» = none_of c.in_ok-row.field-0 _ _ c.in_default.not-Some c.in_ok-row.ensures in
-    charged_failed c.args.table.now c.pair_parts.new.table.products c.pair_parts.new.table.products c.args.b.«to» c.args.c.«to» c.args.steps.now c.pair_parts.new.steps false c.from_residual-in_err-to.result c.from_residual-in_err-to.ensures.0 unknown.new c.in_err-to.ensures.charged
+    let new = none_of c.product_of.result _ _ c.in_default-product_of.not-Some c.product_of.ensures in
+    charged_failed c.args.table.now c.pair_parts.new.table.products c.pair_parts.new.table.products c.args.b.«to» c.args.c.«to» c.args.steps.now c.pair_parts.new.steps false c.from_residual.result c.from_residual.ensures.0 new c.in_err-to.ensures.charged
 
-pub pair_row-returned_row-requires : goal.pair_row-returned_row-requires
-pair_row-returned_row-requires g t c =
+pub pair_row-push_returned-requires-2 : goal.pair_row-push_returned-requires-2
+pair_row-push_returned-requires-2 g t c =
     let own_c : c.args.c.«to».at < count c.args.table.now.levels c.args.c.«to».level = subst (λ (m : ℕ). c.args.c.«to».at < count c.args.table.now.levels m) (sym c.requires.second.over.level) c.requires.second.good.callee_exists in
     let old = c.args.table.now in
     let new = c.pair_parts.new.table in
@@ -337,14 +332,15 @@ pair_row-returned_row-requires g t c =
       good = q.good;
       first = good_over_kept old new q.extends q.longer c.args.b.«to».level c.args.b c.requires.first;
       second = good_over_kept old new q.extends q.longer c.args.b.«to».level c.args.c c.requires.second;
-      product = subst (λ (ps : List (ℕ × ℕ)). HasCanon new.levels c.in_ok-to.«to» c.args.b.«to».level (zip (pattern new.levels c.args.b.«to».level c.args.b.«to».at) (pattern new.levels c.args.c.«to».level c.args.c.«to».at)) ps) (sym c.as_slice.ensures.value)
+      product = subst (λ (ps : List (ℕ × ℕ)). HasCanon new.levels c.in_ok-to.«to» c.args.b.«to».level (zip (pattern new.levels c.args.b.«to».level c.args.b.«to».at) (pattern new.levels c.args.c.«to».level c.args.c.«to».at)) ps) (sym c.as_slice-2.ensures.value)
           (canon_kept old.levels new.levels c.requires.good q.extends c.args.b.«to» c.args.c.«to» c.in_ok-to.«to» c.in_ok-to.pairs.items c.requires.first.good.callee_exists own_c q.paired);
+      ended = c.requires.ended;
     }
 
-pub pair_row-returns-in_err-row-2-clause-charged : goal.pair_row-returns-in_err-row-2-clause-charged
-pair_row-returns-in_err-row-2-clause-charged g t c =
-    let unknown : IsUnknown c.args.table.now c.args.b.«to» c.args.c.«to» = none_of c.in_ok-row.field-0 _ _ c.in_default.not-Some c.in_ok-row.ensures in
-    charged_failed c.args.table.now c.pair_parts.new.table.products c.pair_parts.new.table.products c.args.b.«to» c.args.c.«to» c.args.steps.now c.pair_parts.new.steps true c.from_residual-in_err-row-2.result c.from_residual-in_err-row-2.ensures.0 unknown.new c.in_ok-to.ensures.charged
+pub pair_row-returns-in_err-push_returned-clause-charged : goal.pair_row-returns-in_err-push_returned-clause-charged
+pair_row-returns-in_err-push_returned-clause-charged g t c =
+    let new = none_of c.product_of.result _ _ c.in_default-product_of.not-Some c.product_of.ensures in
+    charged_failed c.args.table.now c.pair_parts.new.table.products c.pair_parts.new.table.products c.args.b.«to» c.args.c.«to» c.args.steps.now c.pair_parts.new.steps true c.from_residual-in_err-push_returned.result c.from_residual-in_err-push_returned.ensures.0 new c.in_ok-to.ensures.charged
 
 pub pair_row-keep_product-requires-clause-product : goal.pair_row-keep_product-requires-clause-product
 pair_row-keep_product-requires-clause-product g t c =
@@ -354,13 +350,8 @@ pair_row-keep_product-requires-clause-product g t c =
 pub pair_row-keep_product-requires-clause-new : goal.pair_row-keep_product-requires-clause-new
 pair_row-keep_product-requires-clause-new g t c =
     let own_c : c.args.c.«to».at < count c.args.table.now.levels c.args.c.«to».level = subst (λ (m : ℕ). c.args.c.«to».at < count c.args.table.now.levels m) (sym c.requires.second.over.level) c.requires.second.good.callee_exists in
-    let unknown : IsUnknown c.args.table.now c.args.b.«to» c.args.c.«to» = none_of c.in_ok-row.field-0 _ _ c.in_default.not-Some c.in_ok-row.ensures in
-    still_unknown c.args.table.now c.pair_parts.new.table c.requires.good c.in_ok-to.ensures.extends c.args.b.«to» c.args.c.«to» c.requires.first.good.callee_exists own_c c.args.steps.now c.pair_parts.new.steps unknown.new c.in_ok-to.ensures.charged
-
-pub pair_row-returns-in_err-keep_product-clause-charged : goal.pair_row-returns-in_err-keep_product-clause-charged
-pair_row-returns-in_err-keep_product-clause-charged g t c =
-    let unknown : IsUnknown c.args.table.now c.args.b.«to» c.args.c.«to» = none_of c.in_ok-row.field-0 _ _ c.in_default.not-Some c.in_ok-row.ensures in
-    charged_failed c.args.table.now c.pair_parts.new.table.products c.keep_product.new.self.products c.args.b.«to» c.args.c.«to» c.args.steps.now c.pair_parts.new.steps true c.from_residual-in_err-keep_product.result c.from_residual-in_err-keep_product.ensures.0 unknown.new c.in_ok-to.ensures.charged
+    let new = none_of c.product_of.result _ _ c.in_default-product_of.not-Some c.product_of.ensures in
+    still_unknown c.args.table.now c.pair_parts.new.table c.requires.good c.in_ok-to.ensures.extends c.args.b.«to» c.args.c.«to» c.requires.first.good.callee_exists own_c c.args.steps.now c.pair_parts.new.steps new c.in_ok-to.ensures.charged
 
 pub pair_row-returns-clause-row : goal.pair_row-returns-clause-row
 pair_row-returns-clause-row g t c =
@@ -370,22 +361,17 @@ pair_row-returns-clause-row g t c =
     let l = c.args.b.«to».level in
     let left = row_kept old new c.requires.good q.extends q.longer l c.args.b c.requires.first in
     let right = row_kept old new c.requires.good q.extends q.longer l c.args.c c.requires.second in
-    let r = c.in_ok-row-2.row in
-    subst (λ (u : Levels). Lists u l (zip (connection_row old l c.args.b) (connection_row old l c.args.c)) r) (sym c.in_ok-keep_product.ensures.levels)
-    (subst (λ (v : List ℕ). Lists new.levels l (zip (connection_row old l c.args.b) v) r) right (subst (λ (v : List ℕ). Lists new.levels l (zip v (connection_row new l c.args.c)) r) left c.in_ok-row-2.ensures.row))
-
-pub pair_row-returns-clause-added : goal.pair_row-returns-clause-added
-pair_row-returns-clause-added g t c =
-    let old = c.args.table.now.levels in
-    let new = c.pair_parts.new.table.levels in
-    let l = c.args.b.«to».level in
-    let q = c.in_ok-to.ensures in
-    let added : AddsOnly old new (sub l (pattern new l c.in_ok-to.«to».at)) = subst (λ (m : ℕ). AddsOnly old new (sub m (pattern new m c.in_ok-to.«to».at))) q.paired.level q.added in
-    subst (λ (u : Levels). AddsOnly old u (sub l (pattern u l c.in_ok-row-2.row.0.at))) (sym c.in_ok-keep_product.ensures.levels)
-    (subst (λ (r : Gid). AddsOnly old new (sub l (pattern new l r.at))) (sym c.in_ok-row-2.ensures.head) added)
+    let added : AddsOnly old.levels new.levels (sub l (pattern new.levels l c.in_ok-to.«to».at)) = subst (λ (m : ℕ). AddsOnly old.levels new.levels (sub m (pattern new.levels m c.in_ok-to.«to».at))) q.paired.level q.added in
+    let gained : GainsRow c.args.rows.now c.push_returned-2.new.rows (IsAdded old.levels new.levels l (row_pairs old c.args.b c.args.c)) =
+    gains_so _ _ c.args.rows.now c.push_returned-2.new.rows
+    (λ r h. record {
+      lists = subst (λ (v : List ℕ). Lists new.levels l (zip (connection_row old l c.args.b) v) r) right (subst (λ (v : List ℕ). Lists new.levels l (zip v (connection_row new l c.args.c)) r) left h.lists);
+      added = subst (λ (r : Gid). AddsOnly old.levels new.levels (sub l (pattern new.levels l r.at))) (sym h.head) added;
+    }) c.in_ok-push_returned.ensures in
+    on_ok_weaker c.keep_product.result (λ kept. subst (λ (u : Levels). GainsRow c.args.rows.now c.push_returned-2.new.rows (IsAdded old.levels u l (row_pairs old c.args.b c.args.c))) (sym c.keep_product.ensures.levels) gained) c.keep_product.ensures.kept
 
 pub pair_row-returns-clause-charged : goal.pair_row-returns-clause-charged
 pair_row-returns-clause-charged g t c =
     let own_c : c.args.c.«to».at < count c.args.table.now.levels c.args.c.«to».level = subst (λ (m : ℕ). c.args.c.«to».at < count c.args.table.now.levels m) (sym c.requires.second.over.level) c.requires.second.good.callee_exists in
-    let unknown : IsUnknown c.args.table.now c.args.b.«to» c.args.c.«to» = none_of c.in_ok-row.field-0 _ _ c.in_default.not-Some c.in_ok-row.ensures in
-    charged_kept c.args.table.now c.pair_parts.new.table c.keep_product.new.self.products c.requires.good c.in_ok-to.ensures.extends c.args.b.«to» c.args.c.«to» c.requires.first.good.callee_exists own_c c.args.steps.now c.pair_parts.new.steps unknown.new c.in_ok-to.ensures.charged c.in_ok-keep_product.ensures.kept
+    let new = none_of c.product_of.result _ _ c.in_default-product_of.not-Some c.product_of.ensures in
+    charged_whole c.args.table.now c.pair_parts.new.table c.keep_product.new.self.products c.requires.good c.in_ok-to.ensures.extends c.args.b.«to» c.args.c.«to» c.requires.first.good.callee_exists own_c c.args.steps.now c.pair_parts.new.steps new c.in_ok-to.ensures.charged c.keep_product.result c.keep_product.ensures.kept

@@ -5,27 +5,28 @@ use Rattle.cf_model.proofs.Canonicity.{level_holds}
 use Rattle.cf_model.proofs.Growing.{exits_kept}
 use Rattle.cf_table.specs.Groupings.{connection_of}
 use Rattle.cf_table.specs.Goodness.{IsGoodOver}
-use Rattle.cf_build.specs.Assembling.{IsRow, HasCanon, AddsOnly}
+use Rattle.cf_build.specs.Assembling.{Rowed, IsRow, HasCanon, AddsOnly}
 use Rattle.cf_build.proofs.Turns.{if_ok2}
 use Rattle.cf_table.specs.Triples.{zip3}
 use Rattle.cf_pair.specs.Products.{triple_word, Lists, ListEach, AddsOnlyIn}
-use Rattle.cf_pair.proofs.Rows.{listed_more}
+use Rattle.cf_pair.proofs.Rows.{listed_more, listed_none}
 use Rattle.cf_pair.proofs.Pairs.{read_good, read_row}
 use Rattle.cf_pair.proofs.Triples.{TripleCall, call_range, assembly3}
 use Rattle.cf_model.specs.Diagrams.{Levels}
-use Rattle.cf_build.proofs.Turns.{if_ok}
+use Rattle.std.proofs.lemmas.Result.{on_ok_weaker}
+use Rattle.cf_pair.proofs.Pushing.{gains_so, on_ok_always}
 use Rattle.cf_table.specs.declared.Gid.{Gid}
 use Rattle.cf_table.specs.Groupings.{Groupings}
 use Rattle.cf_table.specs.Triples.{IsTriple}
-use Rattle.cf_pair.specs.Products.{connection_row}
-use Rattle.cf_pair.proofs.Keeping.{good_over_kept, canon3_kept, is_triple, lists3_kept}
+use Rattle.cf_pair.specs.Products.{row_triples, GainsRow, IsAdded}
+use Rattle.cf_pair.proofs.Keeping.{good_over_kept, canon3_kept, is_triple, returned_added}
 use Rattle.cf_pair.proofs.tripling.+triple.Goals as goal
 
 pub triple_rows-triple_row-requires : goal.triple_rows-triple_row-requires
 triple_rows-triple_row-requires g t c κs within =
     let old = c.args.table.now in
     let now = c.loop-i.table in
-    let ext = c.loop-i.invariant.extends in
+    let ext = c.loop-i.invariant.listed.extends in
     let k = c.args.f.level in
     let l = k - 1 in
     let m = get_or c.args.middles.now c.loop-i.i (0, 0, 0) in
@@ -37,9 +38,9 @@ triple_rows-triple_row-requires g t c κs within =
     let below_g : l + 1 ≡ c.args.g.level = omega (arith, below, c.requires.second_level) in
     let below_h : l + 1 ≡ c.args.h.level = omega (arith, below, c.requires.third_level) in
     let lev : x.«to».level ≡ l = omega (arith, c.b_of-x.ensures.level) in
-    let gx : IsGoodOver now l x = read_good old now c.loop-i.invariant.good ext k l c.args.f.at m.0 below c.requires.first in_.0 x c.b_of-x.ensures.level c.b_of-x.ensures.connection c.b_of-x.ensures.tuple in
-    let gy : IsGoodOver now l y = read_good old now c.loop-i.invariant.good ext c.args.g.level l c.args.g.at m.1 below_g c.requires.second in_.1 y c.b_of-y.ensures.level c.b_of-y.ensures.connection c.b_of-y.ensures.tuple in
-    let gz : IsGoodOver now l z = read_good old now c.loop-i.invariant.good ext c.args.h.level l c.args.h.at m.2 below_h c.requires.third in_.2 z c.b_of-z.ensures.level c.b_of-z.ensures.connection c.b_of-z.ensures.tuple in
+    let gx : IsGoodOver now l x = read_good old now c.loop-i.invariant.listed.good ext k l c.args.f.at m.0 below c.requires.first in_.0 x c.b_of-x.ensures.level c.b_of-x.ensures.connection c.b_of-x.ensures.tuple in
+    let gy : IsGoodOver now l y = read_good old now c.loop-i.invariant.listed.good ext c.args.g.level l c.args.g.at m.1 below_g c.requires.second in_.1 y c.b_of-y.ensures.level c.b_of-y.ensures.connection c.b_of-y.ensures.tuple in
+    let gz : IsGoodOver now l z = read_good old now c.loop-i.invariant.listed.good ext c.args.h.level l c.args.h.at m.2 below_h c.requires.third in_.2 z c.b_of-z.ensures.level c.b_of-z.ensures.connection c.b_of-z.ensures.tuple in
     let six : x.«to».level ≤ 6 = omega (arith, lev, c.requires.level) in
     let fx : IsGoodOver now x.«to».level x = subst (λ (i : ℕ). IsGoodOver now i x) (sym lev) gx in
     let fy : IsGoodOver now x.«to».level y = subst (λ (i : ℕ). IsGoodOver now i y) (sym lev) gy in
@@ -51,7 +52,7 @@ pub triple_rows-loop-i-preserved : goal.triple_rows-loop-i-preserved
 triple_rows-loop-i-preserved g t c =
     let old = c.args.table.now in
     let now = c.loop-i.table in
-    let ext = c.loop-i.invariant.extends in
+    let ext = c.loop-i.invariant.listed.extends in
     let k = c.args.f.level in
     let l = k - 1 in
     let m = get_or c.args.middles.now c.loop-i.i (0, 0, 0) in
@@ -67,20 +68,32 @@ triple_rows-loop-i-preserved g t c =
     let ex = read_row old now c.requires.good ext k l c.args.f.at m.0 below c.requires.first in_.0 x c.b_of-x.ensures.connection in
     let ey = read_row old now c.requires.good ext c.args.g.level l c.args.g.at m.1 below_g c.requires.second in_.1 y c.b_of-y.ensures.connection in
     let ez = read_row old now c.requires.good ext c.args.h.level l c.args.h.at m.2 below_h c.requires.third in_.2 z c.b_of-z.ensures.connection in
-    let r = c.in_ok-row.row in
+    let gained = c.in_ok-triple_row.ensures.row in
+    let r = gained.row in
     let rx = row (pattern now.levels l) (connection_of now.tuples x) in
     let ry = row (pattern now.levels l) (connection_of now.tuples y) in
     let rz = row (pattern now.levels l) (connection_of now.tuples z) in
     let wx = row (pattern old.levels l) (connection_at (node old.levels k c.args.f.at).connections m.0) in
     let wy = row (pattern old.levels l) (connection_at (node old.levels c.args.g.level c.args.g.at).connections m.1) in
     let lists : Lists new.levels l (zip3 rx ry rz) r =
-    subst (λ (i : ℕ). Lists new.levels i (zip3 (row (pattern now.levels i) (connection_of now.tuples x)) (row (pattern now.levels i) (connection_of now.tuples y)) (row (pattern now.levels i) (connection_of now.tuples z))) r) lev c.in_ok-row.ensures.row in
+    subst (λ (i : ℕ). Lists new.levels i (zip3 (row (pattern now.levels i) (connection_of now.tuples x)) (row (pattern now.levels i) (connection_of now.tuples y)) (row (pattern now.levels i) (connection_of now.tuples z))) r) lev gained.is_asked.lists in
     let word = triple_word (pattern old.levels l) (node old.levels k c.args.f.at).connections (node old.levels c.args.g.level c.args.g.at).connections (node old.levels c.args.h.level c.args.h.at).connections in
     let wanted : Lists new.levels l (word m) r =
     subst (λ (v : List (ℕ × ℕ × ℕ)). Lists new.levels l v r) (ap (λ (v : List ℕ). zip3 v ry rz) ex ∙ ap (λ (v : List ℕ). zip3 wx v rz) ey ∙ ap (λ (v : List ℕ). zip3 wx wy v) ez) lists in
-    let added : AddsOnly now.levels new.levels (sub l (pattern new.levels l r.0.at)) = subst (λ (i : ℕ). AddsOnly now.levels new.levels (sub i (pattern new.levels i r.0.at))) lev c.in_ok-row.ensures.added in
-    listed_more old now new l (λ i. word (get_or c.args.middles.now i (0, 0, 0))) c.loop-i.i c.loop-i.rows.items c.push.new.self.items r c.loop-i.invariant wanted added
-    c.in_ok-row.ensures.good c.in_ok-row.ensures.extends c.in_ok-row.ensures.longer c.in_ok-push.ensures.items
+    let added : AddsOnly now.levels new.levels (sub l (pattern new.levels l r.0.at)) = subst (λ (i : ℕ). AddsOnly now.levels new.levels (sub i (pattern new.levels i r.0.at))) lev gained.is_asked.added in
+    record {
+      listed = listed_more old now new l (λ i. word (get_or c.args.middles.now i (0, 0, 0))) c.loop-i.i c.loop-i.rows.rows c.triple_row.new.rows.rows r c.loop-i.invariant.listed wanted added
+          c.in_ok-triple_row.ensures.good c.in_ok-triple_row.ensures.extends c.in_ok-triple_row.ensures.longer (ap (λ (s : Rowed (ℕ × ℕ × ℕ)). s.rows) gained.is_last);
+      ended = ap (λ (s : Rowed (ℕ × ℕ × ℕ)). s.begun) gained.is_last;
+    }
+
+pub triple_rows-loop-i-init : goal.triple_rows-loop-i-init
+triple_rows-loop-i-init g t c =
+    let none = c.in_ok-rows.ensures in
+    record {
+      listed = listed_none _ _ _ _ c.requires.good (ap (λ (s : Rowed (ℕ × ℕ × ℕ)). s.rows) none);
+      ended = ap (λ (s : Rowed (ℕ × ℕ × ℕ)). s.begun) none;
+    }
 
 pub triple_parts-triple_rows-requires : goal.triple_parts-triple_rows-requires
 triple_parts-triple_rows-requires g t c κs within =
@@ -116,22 +129,21 @@ triple_parts-triple_rows-requires g t c κs within =
     let falls : 4 * k - 2 < 4 * k - 1 = omega (arith, positive) in
     search rules
 
-pub triple_parts-assemble-requires-clause-middles : goal.triple_parts-assemble-requires-clause-middles
-triple_parts-assemble-requires-clause-middles g t c =
+pub triple_parts-assemble_rows-requires-clause-middles : goal.triple_parts-assemble_rows-requires-clause-middles
+triple_parts-assemble_rows-requires-clause-middles g t c =
     let new = c.triple_groupings.new.table.levels in
     let e = c.in_ok-callee.callee in
     let p = c.in_ok-callee.ensures.tripled in
-    ap length c.as_slice-2.ensures.value ∙ c.in_ok-rows.ensures.rows.long ∙ ap length c.as_slice.ensures.value ∙ sym p.canon.reached
+    c.in_ok-rows.ensures.rows.long ∙ ap length c.as_slice.ensures.value ∙ sym p.canon.reached
     ∙ (level_holds new c.in_ok-callee.ensures.good e.level).reaches e.at p.there ∙ sym (exits_kept new c.triple_rows.new.table.levels c.in_ok-rows.ensures.extends e.level e.at p.there)
 
-pub triple_parts-assemble-requires-clause-rows : goal.triple_parts-assemble-requires-clause-rows
-triple_parts-assemble-requires-clause-rows g t c k d lk =
+pub triple_parts-assemble_rows-requires-clause-rows : goal.triple_parts-assemble_rows-requires-clause-rows
+triple_parts-assemble_rows-requires-clause-rows g t c k d lk =
     let v = c.triple_rows.new.table.levels in
-    let q = c.as_slice-2.ensures.value in
     let w = c.in_ok-rows.ensures.rows in
-    let r = (w.each k d (omega (arith, lk, ap length q, w.long))).is_row in
+    let r = (w.each k d (omega (arith, lk, w.long))).is_row in
     let lev : c.args.f.level - 1 ≡ c.in_ok-callee.callee.level = omega (arith, c.in_ok-callee.ensures.tripled.level, c.a_of-a.ensures.level) in
-    subst (λ (l : ℕ). IsRow v l (get_or c.as_slice-2.result.now k d)) lev (subst (λ (x : _). IsRow v (c.args.f.level - 1) (get_or x k d)) (sym q) r)
+    subst (λ (l : ℕ). IsRow v l (get_or c.in_ok-rows.rows.rows k d)) lev r
 
 pub triple_parts-returns-clause-tripled : goal.triple_parts-returns-clause-tripled
 triple_parts-returns-clause-tripled g t c =
@@ -158,13 +170,12 @@ triple_parts-returns-clause-tripled g t c =
       canon = subst (λ (v : List (ℕ × ℕ × ℕ)). HasCanon new e c.a_of-a.result.level (zip3 (pattern old c.a_of-a.result.level c.a_of-a.result.at) (pattern old c.a_of-b.result.level c.a_of-b.result.at) (pattern old c.a_of-c.result.level c.a_of-c.result.at)) v) (sym c.as_slice.ensures.value) c.in_ok-callee.ensures.tripled;
     } in
     let v = c.triple_rows.new.table.levels in
-    let rows = c.as_slice-2.result.now in
+    let rows = c.in_ok-rows.rows.rows in
     let l = c.args.f.level - 1 in
-    let listed : ListEach v l (λ i. triple_word (pattern new l) (node new c.args.f.level c.args.f.at).connections (node new c.args.g.level c.args.g.at).connections (node new c.args.h.level c.args.h.at).connections (get_or ms i (0, 0, 0))) (length ms) rows =
-    subst (λ (x : _). ListEach v l (λ i. triple_word (pattern new l) (node new c.args.f.level c.args.f.at).connections (node new c.args.g.level c.args.g.at).connections (node new c.args.h.level c.args.h.at).connections (get_or ms i (0, 0, 0))) (length ms) x) (sym c.as_slice-2.ensures.value) c.in_ok-rows.ensures.rows in
-    let added : AddsOnlyIn new v l rows = subst (λ (x : _). AddsOnlyIn new v l x) (sym c.as_slice-2.ensures.value) c.in_ok-rows.ensures.added in
-    if_ok2 c.assemble.result _ _ _ c.assemble.ensures.assembled c.assemble.ensures.added
-    (λ r s x. (assembly3 old new v c.assemble.new.table.levels c.args.f c.args.g c.args.h c.a_of-a.result c.a_of-b.result c.a_of-c.result e ms rows r.0 r.1.items w c.in_ok-rows.ensures.good c.in_ok-rows.ensures.extends listed c.assemble.ensures.good c.assemble.ensures.kept s c.in_ok-callee.ensures.added added x).0)
+    let listed : ListEach v l (λ i. triple_word (pattern new l) (node new c.args.f.level c.args.f.at).connections (node new c.args.g.level c.args.g.at).connections (node new c.args.h.level c.args.h.at).connections (get_or ms i (0, 0, 0))) (length ms) rows = c.in_ok-rows.ensures.rows in
+    let added : AddsOnlyIn new v l rows = c.in_ok-rows.ensures.added in
+    if_ok2 c.assemble_rows.result _ _ _ c.assemble_rows.ensures.assembled c.assemble_rows.ensures.added
+    (λ r s x. (assembly3 old new v c.assemble_rows.new.table.levels c.args.f c.args.g c.args.h c.a_of-a.result c.a_of-b.result c.a_of-c.result e ms rows r.0 r.1.items w c.in_ok-rows.ensures.good c.in_ok-rows.ensures.extends listed c.assemble_rows.ensures.good c.assemble_rows.ensures.kept s c.in_ok-callee.ensures.added added x).0)
 
 pub triple_parts-returns-clause-added : goal.triple_parts-returns-clause-added
 triple_parts-returns-clause-added g t c =
@@ -191,13 +202,12 @@ triple_parts-returns-clause-added g t c =
       canon = subst (λ (v : List (ℕ × ℕ × ℕ)). HasCanon new e c.a_of-a.result.level (zip3 (pattern old c.a_of-a.result.level c.a_of-a.result.at) (pattern old c.a_of-b.result.level c.a_of-b.result.at) (pattern old c.a_of-c.result.level c.a_of-c.result.at)) v) (sym c.as_slice.ensures.value) c.in_ok-callee.ensures.tripled;
     } in
     let v = c.triple_rows.new.table.levels in
-    let rows = c.as_slice-2.result.now in
+    let rows = c.in_ok-rows.rows.rows in
     let l = c.args.f.level - 1 in
-    let listed : ListEach v l (λ i. triple_word (pattern new l) (node new c.args.f.level c.args.f.at).connections (node new c.args.g.level c.args.g.at).connections (node new c.args.h.level c.args.h.at).connections (get_or ms i (0, 0, 0))) (length ms) rows =
-    subst (λ (x : _). ListEach v l (λ i. triple_word (pattern new l) (node new c.args.f.level c.args.f.at).connections (node new c.args.g.level c.args.g.at).connections (node new c.args.h.level c.args.h.at).connections (get_or ms i (0, 0, 0))) (length ms) x) (sym c.as_slice-2.ensures.value) c.in_ok-rows.ensures.rows in
-    let added : AddsOnlyIn new v l rows = subst (λ (x : _). AddsOnlyIn new v l x) (sym c.as_slice-2.ensures.value) c.in_ok-rows.ensures.added in
-    if_ok2 c.assemble.result _ _ _ c.assemble.ensures.assembled c.assemble.ensures.added
-    (λ r s x. (assembly3 old new v c.assemble.new.table.levels c.args.f c.args.g c.args.h c.a_of-a.result c.a_of-b.result c.a_of-c.result e ms rows r.0 r.1.items w c.in_ok-rows.ensures.good c.in_ok-rows.ensures.extends listed c.assemble.ensures.good c.assemble.ensures.kept s c.in_ok-callee.ensures.added added x).1)
+    let listed : ListEach v l (λ i. triple_word (pattern new l) (node new c.args.f.level c.args.f.at).connections (node new c.args.g.level c.args.g.at).connections (node new c.args.h.level c.args.h.at).connections (get_or ms i (0, 0, 0))) (length ms) rows = c.in_ok-rows.ensures.rows in
+    let added : AddsOnlyIn new v l rows = c.in_ok-rows.ensures.added in
+    if_ok2 c.assemble_rows.result _ _ _ c.assemble_rows.ensures.assembled c.assemble_rows.ensures.added
+    (λ r s x. (assembly3 old new v c.assemble_rows.new.table.levels c.args.f c.args.g c.args.h c.a_of-a.result c.a_of-b.result c.a_of-c.result e ms rows r.0 r.1.items w c.in_ok-rows.ensures.good c.in_ok-rows.ensures.extends listed c.assemble_rows.ensures.good c.assemble_rows.ensures.kept s c.in_ok-callee.ensures.added added x).1)
 
 pub triple_groupings-keep_triple-requires : goal.triple_groupings-keep_triple-requires
 triple_groupings-keep_triple-requires g t c =
@@ -210,8 +220,8 @@ pub triple_groupings-returns-clause-added : goal.triple_groupings-returns-clause
 triple_groupings-returns-clause-added g t c =
     subst (λ (u : Levels). AddsOnly c.args.table.now.levels u (sub c.in_ok-head.head.level (pattern u c.in_ok-head.head.level c.in_ok-head.head.at))) (sym (ap (λ (t : Groupings). t.levels) c.keep_triple.ensures)) c.in_ok-head.ensures.added
 
-pub triple_row-returned_row-requires : goal.triple_row-returned_row-requires
-triple_row-returned_row-requires g t c =
+pub triple_row-push_returned-requires : goal.triple_row-push_returned-requires
+triple_row-push_returned-requires g t c =
     let own_y : c.args.y.«to».at < count c.args.table.now.levels c.args.y.«to».level = subst (λ (m : ℕ). c.args.y.«to».at < count c.args.table.now.levels m) (sym c.requires.second.over.level) c.requires.second.good.callee_exists in
     let own_z : c.args.z.«to».at < count c.args.table.now.levels c.args.z.«to».level = subst (λ (m : ℕ). c.args.z.«to».at < count c.args.table.now.levels m) (sym c.requires.third.over.level) c.requires.third.good.callee_exists in
     let old = c.args.table.now in
@@ -224,23 +234,21 @@ triple_row-returned_row-requires g t c =
       third = good_over_kept old new q.extends q.longer c.args.x.«to».level c.args.z c.requires.third;
       product = subst (λ (ts : List (ℕ × ℕ × ℕ)). HasCanon new.levels c.in_ok-to.«to» c.args.x.«to».level (zip3 (pattern new.levels c.args.x.«to».level c.args.x.«to».at) (pattern new.levels c.args.y.«to».level c.args.y.«to».at) (pattern new.levels c.args.z.«to».level c.args.z.«to».at)) ts) (sym c.as_slice.ensures.value)
           (canon3_kept old.levels new.levels c.requires.good q.extends c.args.x.«to» c.args.y.«to» c.args.z.«to» c.in_ok-to.«to» c.in_ok-to.triples.items c.requires.first.good.callee_exists own_y own_z q.tripled);
+      ended = c.requires.ended;
     }
 
 pub triple_row-returns-then-is_plain-clause-row : goal.triple_row-returns-then-is_plain-clause-row
 triple_row-returns-then-is_plain-clause-row g t c =
-    if_ok c.returned_row.result _ _ c.returned_row.ensures.row (λ r h. lists3_kept c.args.table.now c.triple_groupings.new.table c.requires.good c.in_ok-to.ensures.extends c.in_ok-to.ensures.longer c.args.x.«to».level c.args.x c.args.y c.args.z c.requires.first c.requires.second c.requires.third r h)
+    on_ok_weaker c.push_returned.result
+    (returned_added c.args.table.now c.triple_groupings.new.table c.requires.good c.in_ok-to.ensures.extends c.in_ok-to.ensures.longer c.args.x c.args.y c.args.z c.requires.first c.requires.second c.requires.third c.in_ok-to.«to» c.in_ok-to.ensures.tripled.level c.in_ok-to.ensures.added
+    c.args.rows.now c.push_returned.new.rows) c.push_returned.ensures
 
-pub triple_row-returns-then-is_plain-clause-added : goal.triple_row-returns-then-is_plain-clause-added
-triple_row-returns-then-is_plain-clause-added g t c =
-    let old = c.args.table.now.levels in
-    let new = c.triple_groupings.new.table.levels in
-    let l = c.args.x.«to».level in
-    let q = c.in_ok-to.ensures in
-    let added : AddsOnly old new (sub l (pattern new l c.in_ok-to.«to».at)) = subst (λ (m : ℕ). AddsOnly old new (sub m (pattern new m c.in_ok-to.«to».at))) q.tripled.level q.added in
-    if_ok c.returned_row.result _ _ c.returned_row.ensures.head (λ r h. subst (λ (e : Gid). AddsOnly old new (sub l (pattern new l e.at))) (sym h) added)
+pub triple_row-returns-in-Some-clause-row : goal.triple_row-returns-in-Some-clause-row
+triple_row-returns-in-Some-clause-row g t c =
+    on_ok_weaker c.push_returned-in-Some.result (gains_so _ _ c.args.rows.now c.push_returned-in-Some.new.rows (λ r h. record { lists = h.lists; added = λ k j ge lt. absurd (omega (arith, ge, lt)) })) c.push_returned-in-Some.ensures
 
-pub triple_row-returned_row-requires-2 : goal.triple_row-returned_row-requires-2
-triple_row-returned_row-requires-2 g t c =
+pub triple_row-push_returned-requires-2 : goal.triple_row-push_returned-requires-2
+triple_row-push_returned-requires-2 g t c =
     let own_y : c.args.y.«to».at < count c.args.table.now.levels c.args.y.«to».level = subst (λ (m : ℕ). c.args.y.«to».at < count c.args.table.now.levels m) (sym c.requires.second.over.level) c.requires.second.good.callee_exists in
     let own_z : c.args.z.«to».at < count c.args.table.now.levels c.args.z.«to».level = subst (λ (m : ℕ). c.args.z.«to».at < count c.args.table.now.levels m) (sym c.requires.third.over.level) c.requires.third.good.callee_exists in
     let old = c.args.table.now in
@@ -253,6 +261,7 @@ triple_row-returned_row-requires-2 g t c =
       third = good_over_kept old new q.extends q.longer c.args.x.«to».level c.args.z c.requires.third;
       product = subst (λ (ts : List (ℕ × ℕ × ℕ)). HasCanon new.levels c.in_ok-to-2.«to» c.args.x.«to».level (zip3 (pattern new.levels c.args.x.«to».level c.args.x.«to».at) (pattern new.levels c.args.y.«to».level c.args.y.«to».at) (pattern new.levels c.args.z.«to».level c.args.z.«to».at)) ts) (sym c.as_slice-2.ensures.value)
           (canon3_kept old.levels new.levels c.requires.good q.extends c.args.x.«to» c.args.y.«to» c.args.z.«to» c.in_ok-to-2.«to» c.in_ok-to-2.triples.items c.requires.first.good.callee_exists own_y own_z q.tripled);
+      ended = c.requires.ended;
     }
 
 pub triple_row-keep_triple-requires : goal.triple_row-keep_triple-requires
@@ -264,16 +273,7 @@ triple_row-keep_triple-requires g t c =
 pub triple_row-returns-clause-row : goal.triple_row-returns-clause-row
 triple_row-returns-clause-row g t c =
     let l = c.args.x.«to».level in
-    let r = c.in_ok-row-2.row in
-    subst (λ (u : Groupings). Lists u.levels l (zip3 (connection_row c.args.table.now l c.args.x) (connection_row c.args.table.now l c.args.y) (connection_row c.args.table.now l c.args.z)) r) (sym c.keep_triple.ensures)
-    (lists3_kept c.args.table.now c.triple_parts.new.table c.requires.good c.in_ok-to-2.ensures.extends c.in_ok-to-2.ensures.longer c.args.x.«to».level c.args.x c.args.y c.args.z c.requires.first c.requires.second c.requires.third r c.in_ok-row-2.ensures.row)
-
-pub triple_row-returns-clause-added : goal.triple_row-returns-clause-added
-triple_row-returns-clause-added g t c =
-    let old = c.args.table.now.levels in
-    let new = c.triple_parts.new.table.levels in
-    let l = c.args.x.«to».level in
-    let q = c.in_ok-to-2.ensures in
-    let added : AddsOnly old new (sub l (pattern new l c.in_ok-to-2.«to».at)) = subst (λ (m : ℕ). AddsOnly old new (sub m (pattern new m c.in_ok-to-2.«to».at))) q.tripled.level q.added in
-    subst (λ (u : Groupings). AddsOnly old u.levels (sub l (pattern u.levels l c.in_ok-row-2.row.0.at))) (sym c.keep_triple.ensures)
-    (subst (λ (e : Gid). AddsOnly old new (sub l (pattern new l e.at))) (sym c.in_ok-row-2.ensures.head) added)
+    let gained =
+    returned_added c.args.table.now c.triple_parts.new.table c.requires.good c.in_ok-to-2.ensures.extends c.in_ok-to-2.ensures.longer c.args.x c.args.y c.args.z c.requires.first c.requires.second c.requires.third c.in_ok-to-2.«to» c.in_ok-to-2.ensures.tripled.level c.in_ok-to-2.ensures.added
+    c.args.rows.now c.push_returned-2.new.rows c.in_ok-push_returned.ensures in
+    on_ok_always c.keep_triple.result (subst (λ (u : Groupings). GainsRow c.args.rows.now c.push_returned-2.new.rows (IsAdded c.args.table.now.levels u.levels l (row_triples c.args.table.now c.args.x c.args.y c.args.z))) (sym c.keep_triple.ensures) gained)

@@ -1,9 +1,0 @@
-use Rattle.std.proofs.Common.{ℕ, ◌∙◌, sym, ap, List, [], ◌∷◌, ◌++◌, arith}
-use Rattle.std.proofs.lemmas.List.FromFn.{map-range_with_len_more}
-use Rattle.cf_pair.specs.Products.{after_zero}
-use Rattle.cf_pair.proofs.pairing.pairs_after_zero.Goals as goal
-
-pub loop-exit-preserved : goal.loop-exit-preserved
-loop-exit-preserved c =
-    let i = c.loop-exit.exit in
-    c.in_ok-push.ensures.items ∙ ap (λ (v : List (ℕ × ℕ)). v ++ after_zero i ∷ []) c.loop-exit.invariant ∙ sym (map-range_with_len_more after_zero 0 i i (omega arith))

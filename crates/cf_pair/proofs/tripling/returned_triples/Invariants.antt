@@ -1,6 +1,0 @@
-use Rattle.std.proofs.Common.{◌≡◌, take, map}
-use Rattle.cf_pair.specs.Products.{returned3}
-use Rattle.cf_pair.proofs.tripling.returned_triples.Given as goal
-
-abbrev pub invariant-loop-i : goal.invariant-loop-i
-invariant-loop-i l = l.returned.items ≡ map (returned3 l.left l.middle l.right) (take l.i l.triples)
