@@ -1,6 +1,5 @@
 use Rattle.std.proofs.Common.{◌≡◌, ℕ, zero, suc, ◌<◌, ◌≤◌, ◌+◌, ◌-◌, ◌^◌, List, [], ◌∷◌, map, length, nat_eq, sym, ◌∙◌, ap, subst, arith, pow-suc, add-one}
 use Rattle.std.specs.List.{All}
-use Rattle.std.specs.declared.vec.Vec.{Vec}
 use Rattle.cf_model.specs.Assignments.{all_bits}
 use Rattle.cf_model.specs.Renumbering.{width, Grows}
 use Rattle.cf_model.specs.Diagrams.{Levels, count, pattern, exits, IsGood, Extends}
@@ -93,7 +92,7 @@ two_rows P x y h k (suc zero) d l = k
 two_rows P x y h k (suc (suc n)) d l = absurd (omega (arith, l))
 
 -- a grouping with a label for each exit is a row
-pub labelled : {Z : Type 0} (t : Levels) (g : Gid) (l : ℕ) (ranks : List ℕ) (v : Vec ℕ Z) (n : ℕ) → Stands t g l ranks → (m : ℕ) → l ≡ m → exits t g.level g.at ≡ n → length v.items ≡ n → IsRow t m (g, v)
+pub labelled : (t : Levels) (g : Gid) (l : ℕ) (ranks v : List ℕ) (n : ℕ) → Stands t g l ranks → (m : ℕ) → l ≡ m → exits t g.level g.at ≡ n → length v ≡ n → IsRow t m (g, v)
 labelled t g l ranks v n s m e full long =
     let q : g.level ≡ m = s.level ∙ e in
     record {

@@ -14,8 +14,8 @@ assemble-requires-clause-rows c =
     let b = c.args.below in
     let l = c.args.level - 1 in
     let s = c.requires.below in
-    one_row (IsRow v b.level) (b, c.in_ok-label.label)
-    (labelled v b l (constant_pattern l) c.in_ok-label.label 1 s b.level (sym s.level) (constant_exits v c.requires.good b l s) (ap length c.in_ok-label.ensures.items))
+    one_row (IsRow v b.level) (b, c.in_ok-label.label.items)
+    (labelled v b l (constant_pattern l) c.in_ok-label.label.items 1 s b.level (sym s.level) (constant_exits v c.requires.good b l s) (ap length c.in_ok-label.ensures.items))
 
 pub returns-clause-stands : goal.returns-clause-stands
 returns-clause-stands c =

@@ -17,9 +17,9 @@ assemble-requires-clause-rows c =
     let w = c.requires.below.constant in
     let e : l ≡ a.level = sym c.requires.below.variable.level in
     let one = constant_exits v c.requires.good b l w in
-    two_rows (IsRow v a.level) (b, c.in_ok-zero.zero) (b, c.in_ok-one.one)
-    (labelled v b l (constant_pattern l) c.in_ok-zero.zero 1 w a.level e one (ap length c.in_ok-zero.ensures.items))
-    (labelled v b l (constant_pattern l) c.in_ok-one.one 1 w a.level e one (ap length c.in_ok-one.ensures.items))
+    two_rows (IsRow v a.level) (b, c.in_ok-zero.zero.items) (b, c.in_ok-one.one.items)
+    (labelled v b l (constant_pattern l) c.in_ok-zero.zero.items 1 w a.level e one (ap length c.in_ok-zero.ensures.items))
+    (labelled v b l (constant_pattern l) c.in_ok-one.one.items 1 w a.level e one (ap length c.in_ok-one.ensures.items))
 
 pub returns-clause-stands : goal.returns-clause-stands
 returns-clause-stands c =

@@ -18,8 +18,8 @@ assemble-requires-clause-rows c =
     let s = c.requires.below.variable in
     let d = doubled l c.args.level (omega (arith, c.requires.above)) in
     let h : i < 2 ^ l = omega (arith, c.requires.variable, d, c.requires.half) in
-    one_row (IsRow v a.level) (b, c.in_ok-bits.bits)
-    (labelled v b l (variable_pattern l i) c.in_ok-bits.bits 2 s a.level (sym c.requires.below.constant.level) (variable_exits v c.requires.good b l i h s) (ap length c.in_ok-bits.ensures.items))
+    one_row (IsRow v a.level) (b, c.in_ok-bits.bits.items)
+    (labelled v b l (variable_pattern l i) c.in_ok-bits.bits.items 2 s a.level (sym c.requires.below.constant.level) (variable_exits v c.requires.good b l i h s) (ap length c.in_ok-bits.ensures.items))
 
 pub returns-clause-stands : goal.returns-clause-stands
 returns-clause-stands c =
