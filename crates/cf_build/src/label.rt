@@ -8,6 +8,7 @@ ghost use Rattle.cf_build.specs.Keys.{IsWord, word_key, IsPair, pair_key, IsTrip
 use super::numbering::Numbering;
 use cf_table::BConn;
 use cf_tuple::NoMemory;
+use smallvec::SmallVec;
 use std::alloc::Global;
 
 /// What may be assembled: a value whose key tells it from others.
@@ -126,7 +127,10 @@ pub(crate) fn are_few_and_differ<T: Label>(labels: &[T]) -> bool
 
 /// The rank of first appearance of each label, and the different labels in that order, each of
 /// which is a label.
-pub fn canon_of<T: Label>(alloc: Global, labels: &[T]) -> Result<(Vec<u64>, Vec<T>), NoMemory>
+pub fn canon_of<T: Label>(
+    alloc: Global,
+    labels: &[T],
+) -> Result<(SmallVec<u64, 8>, Vec<T>), NoMemory>
     ensures canon { IfOk result (λ r. IsCanon labels.now r.0.items r.1.items) }
     ensures labels { IfOk result (λ r. All T.is_label r.1.items) }
 {

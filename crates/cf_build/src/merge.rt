@@ -13,10 +13,15 @@ use super::label::{are_few_and_differ, canon_of};
 use super::rows::{Row, labels_of};
 use cf_table::{BConn, DONT_CARE, Gid, Table};
 use cf_tuple::NoMemory;
+use smallvec::SmallVec;
 use std::alloc::Global;
 
 /// Appends the class of each exit that a return tuple lists.
-fn append_classes(labels: &mut Vec<u64>, returns: &[u64], classes: &[u64]) -> Result<(), NoMemory>
+fn append_classes(
+    labels: &mut SmallVec<u64, 8>,
+    returns: &[u64],
+    classes: &[u64],
+) -> Result<(), NoMemory>
     requires within { All (λ i. i < length classes.now) returns.now }
     ensures { OnOk result (labels.new.items ≡ labels.old.items ++ classed classes.now returns.now) }
 {
@@ -32,7 +37,7 @@ fn classed_rows(
     table: &Table,
     g: Gid,
     classes: &[u64],
-) -> Result<(Vec<Row>, Vec<u64>), NoMemory>
+) -> Result<(SmallVec<Row, 4>, SmallVec<u64, 8>), NoMemory>
     requires level { 0 < g.level }
     requires owned { Owns table.now g }
     requires good { IsGood table.now.levels }
@@ -43,8 +48,8 @@ fn classed_rows(
     ensures in_turn { IfOk result (λ v. AreInTurn 0 v.0.items (length v.1.items)) }
 {
     let count = table.middle_count(g);
-    let mut rows = Vec::with_capacity(alloc, count as usize)?;
-    let mut labels = Vec::with_capacity(alloc, classes.len())?;
+    let mut rows = SmallVec::new(alloc);
+    let mut labels = SmallVec::new(alloc);
     for j in 0..count {
         let conn = table.connection(g, j);
         let start = labels.len();
@@ -140,7 +145,7 @@ fn thin_rows(
     level: u8,
     rows: &[Row],
     labels: &[u64],
-) -> Result<Vec<BConn>, NoMemory>
+) -> Result<SmallVec<BConn, 4>, NoMemory>
     requires level { level ≤ 6 }
     requires levels { All (λ r. r.callee.level ≡ level) rows.now }
     requires in_turn { AreInTurn 0 rows.now (length labels.now) }
@@ -156,7 +161,7 @@ fn thin_rows(
     ensures longer { Lengthens table.old.tuples table.new.tuples }
     ensures products { table.new.products ≡ table.old.products }
 {
-    let mut conns = Vec::with_capacity(alloc, rows.len())?;
+    let mut conns = SmallVec::new(alloc);
     for i in 0..rows.len() {
         let row = rows[i];
         let conn = thin(alloc, table, row.callee, labels_of(labels, row))?;

@@ -7,13 +7,14 @@ ghost use Rattle.cf_build.specs.Numbering.{IsReady, IsEntered, Numbers};
 use super::label::{FEW, Label, place_of};
 use cf_tuple::NoMemory;
 use indexmap::IndexSet;
+use smallvec::SmallVec;
 use std::alloc::Global;
 
 /// Labels that were read: the rank of first appearance of each, and the different ones in that
 /// order.
 #[derive(Drop)]
 pub(crate) struct Numbering<T> {
-    pub ranks: Vec<u64>,
+    pub ranks: SmallVec<u64, 8>,
     pub different: Vec<T>,
     /// The keys of the different labels, once they are more than a few.
     pub keys: IndexSet<[u64; 3]>,
@@ -26,7 +27,7 @@ impl<T: Label> Numbering<T> {
         ensures ready { IfOk result (λ n. IsReady T.is_label T.key_of n.different.items n.keys.keys) }
     {
         Ok(Numbering {
-            ranks: Vec::with_capacity(alloc, count)?,
+            ranks: SmallVec::with_capacity(alloc, count)?,
             different: Vec::with_capacity(alloc, count.min(FEW))?,
             keys: IndexSet::new(alloc),
         })

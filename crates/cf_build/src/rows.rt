@@ -7,11 +7,12 @@ ghost use Rattle.cf_build.specs.Joining.{labels_in, ArePlaced};
 use super::label::Label;
 use cf_table::Gid;
 use cf_tuple::NoMemory;
+use smallvec::SmallVec;
 use std::alloc::Global;
 use std::marker::Model;
 
 /// A row: its grouping, and where its labels start and end in the list of all labels.
-#[derive(Clone, Copy, Debug)]
+#[derive(Clone, Copy, Debug, Default)]
 pub(crate) struct Row {
     pub callee: Gid,
     pub start: usize,
@@ -31,7 +32,7 @@ pub(crate) fn labels_of(labels: &[u64], row: Row) -> &[u64]
 /// list, so that a row has no list of its own. The labels of the row that isn't ended yet are last.
 #[derive(Drop)]
 pub struct Rows<T> {
-    rows: Vec<Row>,
+    rows: SmallVec<Row, 4>,
     labels: Vec<T>,
     /// Where the labels of the row that isn't ended yet start.
     start: usize,
@@ -55,7 +56,7 @@ impl<T: Label> Rows<T> {
         ensures { IfOk result (λ r. r ≡ ended []) }
     {
         Ok(Rows {
-            rows: Vec::with_capacity(alloc, count)?,
+            rows: SmallVec::with_capacity(alloc, count)?,
             labels: Vec::with_capacity(alloc, count.saturating_mul(2))?,
             start: 0,
         })

@@ -22,7 +22,7 @@ join-requires-clause-in_turn g c =
     let rows = c.args.rows.now.rows in
     let ranks = c.as_slice.result.now in
     let ds = c.in_ok-ranks.different.items in
-    let canon : IsCanon c.places.result.1.now ranks ds = subst (λ (v : List ℕ). IsCanon c.places.result.1.now v ds) (sym c.as_slice.ensures.value) c.in_ok-ranks.ensures.canon in
+    let canon : IsCanon c.places.result.1.now ranks ds = subst (λ (v : List ℕ). IsCanon c.places.result.1.now v ds) (sym c.as_slice.ensures) c.in_ok-ranks.ensures.canon in
     (numbered rows c.places.result.0.now c.places.result.1.now ranks ds c.places.ensures canon).in_turn
 
 pub join-requires-clause-loose : goal.join-requires-clause-loose
@@ -30,7 +30,7 @@ join-requires-clause-loose g c =
     let rows = c.args.rows.now.rows in
     let ranks = c.as_slice.result.now in
     let ds = c.in_ok-ranks.different.items in
-    let canon : IsCanon c.places.result.1.now ranks ds = subst (λ (v : List ℕ). IsCanon c.places.result.1.now v ds) (sym c.as_slice.ensures.value) c.in_ok-ranks.ensures.canon in
+    let canon : IsCanon c.places.result.1.now ranks ds = subst (λ (v : List ℕ). IsCanon c.places.result.1.now v ds) (sym c.as_slice.ensures) c.in_ok-ranks.ensures.canon in
     let n = numbered rows c.places.result.0.now c.places.result.1.now ranks ds c.places.ensures canon in
     placed_loose c.args.table.now.levels c.args.a.level c.args.a.at rows c.places.result.0.now ranks c.requires.owned c.requires.middles c.requires.rows n.frames n.in_turn n.canon.grows
 
@@ -42,7 +42,7 @@ returns-clause-assembled g c =
     let places = c.places.result.0.now in
     let ranks = c.as_slice.result.now in
     let ds = c.in_ok-ranks.different.items in
-    let canon_ : IsCanon c.places.result.1.now ranks ds = subst (λ (v : List ℕ). IsCanon c.places.result.1.now v ds) (sym c.as_slice.ensures.value) c.in_ok-ranks.ensures.canon in
+    let canon_ : IsCanon c.places.result.1.now ranks ds = subst (λ (v : List ℕ). IsCanon c.places.result.1.now v ds) (sym c.as_slice.ensures) c.in_ok-ranks.ensures.canon in
     let n : AreNumbered rows places ranks ds = numbered rows places c.places.result.1.now ranks ds c.places.ensures canon_ in
     let given = map row_of rows in
     let loosed = placed_loose t l c.args.a.at rows places ranks c.requires.owned c.requires.middles c.requires.rows n.frames n.in_turn n.canon.grows in

@@ -21,6 +21,6 @@ returns-clause-reduced c =
     let t = c.args.table.now.levels in
     let l = c.args.g.level in
     let b = level_holds t c.law.ensures.good l in
-    let canon : IsCanon c.args.classes.now c.as_slice.result.now c.in_ok-ranks.field-0-1.items = subst (λ (v : List ℕ). IsCanon c.args.classes.now v c.in_ok-ranks.field-0-1.items) (sym c.as_slice.ensures.value) c.in_ok-ranks.ensures.canon in
+    let canon : IsCanon c.args.classes.now c.as_slice.result.now c.in_ok-ranks.field-0-1.items = subst (λ (v : List ℕ). IsCanon c.args.classes.now v c.in_ok-ranks.field-0-1.items) (sym c.as_slice.ensures) c.in_ok-ranks.ensures.canon in
     let e = classed_rgs c.args.classes.now c.as_slice.result.now c.in_ok-ranks.field-0-1.items (pattern t l c.args.g.at) canon (b.grows c.args.g.at c.requires.owned) (b.reaches c.args.g.at c.requires.owned ∙ sym c.requires.entries) in
     if_ok c.reduce_numbered-2.result _ _ c.reduce_numbered-2.ensures.reduced (λ h s. record { level = s.level; there = s.there; is_it = s.is_it ∙ e })

@@ -30,8 +30,8 @@ join-merge-requires t c =
     let canon : IsCanon c.as_slice-2.result.now c.in_ok-classes.classes.items c.in_ok-classes.bs.items = c.in_ok-classes.ensures.canon in
     let rows : length c.in_ok-conns.conns.items ≡ length (map (row_connection c.args.labels.now) c.args.rows.now) = c.in_ok-conns.ensures.thin.long in
     let long : length c.as_slice-3.result.now ≡ exits c.thin_rows.new.table.levels l c.args.a.at =
-    ap length c.as_slice-3.ensures.value ∙ canon_length _ _ _ canon ∙ ap length c.as_slice-2.ensures.value ∙ rows ∙ c.requires.loose.middles ∙ sym (exits_kept c.args.table.now.levels c.thin_rows.new.table.levels c.in_ok-conns.ensures.extends l c.args.a.at c.requires.loose.callee_exists) in
-    let grow : Grows 0 c.as_slice-3.result.now = subst (λ (v : List ℕ). Grows 0 v) (sym c.as_slice-3.ensures.value) canon.grows in
+    ap length c.as_slice-3.ensures ∙ canon_length _ _ _ canon ∙ ap length c.as_slice-2.ensures ∙ rows ∙ c.requires.loose.middles ∙ sym (exits_kept c.args.table.now.levels c.thin_rows.new.table.levels c.in_ok-conns.ensures.extends l c.args.a.at c.requires.loose.callee_exists) in
+    let grow : Grows 0 c.as_slice-3.result.now = subst (λ (v : List ℕ). Grows 0 v) (sym c.as_slice-3.ensures) canon.grows in
     let seven : l ≤ 7 = omega (arith, c.requires.level) in
     search rules
 
@@ -44,8 +44,8 @@ join-intern-requires-2 t c =
       is_loose = c.requires.loose;
       good1 = c.in_ok-conns.ensures.good;
       extends1 = c.in_ok-conns.ensures.extends;
-      thin = subst (λ (v : List BConn). AreThin c.thin_rows.new.table l (pattern c.args.table.now.levels l) (map (row_connection c.args.labels.now) c.args.rows.now) v) (sym c.as_slice-2.ensures.value) c.in_ok-conns.ensures.thin;
-      canon = subst (λ (v : List ℕ). IsCanon c.as_slice-2.result.now v c.as_slice-4.result.now) (sym c.as_slice-3.ensures.value) (subst (λ (v : List BConn). IsCanon c.as_slice-2.result.now c.in_ok-classes.classes.items v) (sym c.as_slice-4.ensures.value) c.in_ok-classes.ensures.canon);
+      thin = subst (λ (v : List BConn). AreThin c.thin_rows.new.table l (pattern c.args.table.now.levels l) (map (row_connection c.args.labels.now) c.args.rows.now) v) (sym c.as_slice-2.ensures) c.in_ok-conns.ensures.thin;
+      canon = subst (λ (v : List ℕ). IsCanon c.as_slice-2.result.now v c.as_slice-4.result.now) (sym c.as_slice-3.ensures) (subst (λ (v : List BConn). IsCanon c.as_slice-2.result.now c.in_ok-classes.classes.items v) (sym c.as_slice-4.ensures.value) c.in_ok-classes.ensures.canon);
       good2 = c.in_ok-callee.ensures.good;
       extends2 = c.in_ok-callee.ensures.extends;
       longer2 = c.in_ok-callee.ensures.longer;
@@ -64,8 +64,8 @@ join-returns-clause-joined t c =
       is_loose = c.requires.loose;
       good1 = c.in_ok-conns.ensures.good;
       extends1 = c.in_ok-conns.ensures.extends;
-      thin = subst (λ (v : List BConn). AreThin c.thin_rows.new.table l (pattern c.args.table.now.levels l) (map (row_connection c.args.labels.now) c.args.rows.now) v) (sym c.as_slice-2.ensures.value) c.in_ok-conns.ensures.thin;
-      canon = subst (λ (v : List ℕ). IsCanon c.as_slice-2.result.now v c.as_slice-4.result.now) (sym c.as_slice-3.ensures.value) (subst (λ (v : List BConn). IsCanon c.as_slice-2.result.now c.in_ok-classes.classes.items v) (sym c.as_slice-4.ensures.value) c.in_ok-classes.ensures.canon);
+      thin = subst (λ (v : List BConn). AreThin c.thin_rows.new.table l (pattern c.args.table.now.levels l) (map (row_connection c.args.labels.now) c.args.rows.now) v) (sym c.as_slice-2.ensures) c.in_ok-conns.ensures.thin;
+      canon = subst (λ (v : List ℕ). IsCanon c.as_slice-2.result.now v c.as_slice-4.result.now) (sym c.as_slice-3.ensures) (subst (λ (v : List BConn). IsCanon c.as_slice-2.result.now c.in_ok-classes.classes.items v) (sym c.as_slice-4.ensures.value) c.in_ok-classes.ensures.canon);
       good2 = c.in_ok-callee.ensures.good;
       extends2 = c.in_ok-callee.ensures.extends;
       longer2 = c.in_ok-callee.ensures.longer;
@@ -81,12 +81,12 @@ merge-join-requires t c =
     let l = c.a_callee-a.result.level in
     let d = loose_node c.a_callee-a.result.at c.as_slice.result.now c.as_slice-2.result.now in
     let d_is : d ≡ made c.a_callee-a.result.at (map (classed_connection c.args.classes.now) (node c.args.table.now.levels c.args.g.level c.args.g.at).connections) =
-    ap (λ (v : List Row). loose_node c.a_callee-a.result.at v c.as_slice-2.result.now) c.as_slice.ensures.value ∙ ap (λ (v : List ℕ). loose_node c.a_callee-a.result.at c.in_ok-rows.rows.items v) c.as_slice-2.ensures.value
+    ap (λ (v : List Row). loose_node c.a_callee-a.result.at v c.as_slice-2.result.now) c.as_slice.ensures ∙ ap (λ (v : List ℕ). loose_node c.a_callee-a.result.at c.in_ok-rows.rows.items v) c.as_slice-2.ensures
     ∙ ap (λ (v : List Connection). made c.a_callee-a.result.at v) c.in_ok-rows.ensures.rows in
     let r : IsLooseNode (count c.args.table.now.levels l) (exits c.args.table.now.levels l) d = (merging c.args.table.now.levels c.requires.good c.args.g.level l c.args.g.at c.a_callee-a.result.at c.args.classes.now d c.a_callee-a.ensures.level c.requires.owned c.a_callee-a.ensures.callee d_is c.requires.entries c.requires.grows).0 in
     let six : l ≤ 6 = omega (arith, c.requires.level, c.a_callee-a.ensures.level) in
-    let turn : AreInTurn 0 c.as_slice.result.now (length c.as_slice-2.result.now) = subst (λ (v : List Row). AreInTurn 0 v (length c.as_slice-2.result.now)) (sym c.as_slice.ensures.value) (subst (λ (v : List ℕ). AreInTurn 0 c.in_ok-rows.rows.items (length v)) (sym c.as_slice-2.ensures.value) c.in_ok-rows.ensures.in_turn) in
-    let all : All (λ r. r.callee.level ≡ l) c.as_slice.result.now = subst (λ (v : List Row). All (λ r. r.callee.level ≡ l) v) (sym c.as_slice.ensures.value) (λ k e h. omega (arith, c.in_ok-rows.ensures.levels k e h, c.a_callee-a.ensures.level)) in
+    let turn : AreInTurn 0 c.as_slice.result.now (length c.as_slice-2.result.now) = subst (λ (v : List Row). AreInTurn 0 v (length c.as_slice-2.result.now)) (sym c.as_slice.ensures) (subst (λ (v : List ℕ). AreInTurn 0 c.in_ok-rows.rows.items (length v)) (sym c.as_slice-2.ensures) c.in_ok-rows.ensures.in_turn) in
+    let all : All (λ r. r.callee.level ≡ l) c.as_slice.result.now = subst (λ (v : List Row). All (λ r. r.callee.level ≡ l) v) (sym c.as_slice.ensures) (λ k e h. omega (arith, c.in_ok-rows.ensures.levels k e h, c.a_callee-a.ensures.level)) in
     search rules
 
 pub merge-returns-clause-merged : goal.merge-returns-clause-merged
@@ -94,7 +94,7 @@ merge-returns-clause-merged t c =
     let l = c.a_callee-a.result.level in
     let d = loose_node c.a_callee-a.result.at c.as_slice.result.now c.as_slice-2.result.now in
     let d_is : d ≡ made c.a_callee-a.result.at (map (classed_connection c.args.classes.now) (node c.args.table.now.levels c.args.g.level c.args.g.at).connections) =
-    ap (λ (v : List Row). loose_node c.a_callee-a.result.at v c.as_slice-2.result.now) c.as_slice.ensures.value ∙ ap (λ (v : List ℕ). loose_node c.a_callee-a.result.at c.in_ok-rows.rows.items v) c.as_slice-2.ensures.value
+    ap (λ (v : List Row). loose_node c.a_callee-a.result.at v c.as_slice-2.result.now) c.as_slice.ensures ∙ ap (λ (v : List ℕ). loose_node c.a_callee-a.result.at c.in_ok-rows.rows.items v) c.as_slice-2.ensures
     ∙ ap (λ (v : List Connection). made c.a_callee-a.result.at v) c.in_ok-rows.ensures.rows in
     let r = (merging c.args.table.now.levels c.requires.good c.args.g.level l c.args.g.at c.a_callee-a.result.at c.args.classes.now d c.a_callee-a.ensures.level c.requires.owned c.a_callee-a.ensures.callee d_is c.requires.entries c.requires.grows).1 in
     let s = c.in_ok-merged.ensures.joined in
@@ -106,7 +106,7 @@ merge-keep_reduction-requires t c =
     let l = c.a_callee-a.result.level in
     let d = loose_node c.a_callee-a.result.at c.as_slice.result.now c.as_slice-2.result.now in
     let d_is : d ≡ made c.a_callee-a.result.at (map (classed_connection c.args.classes.now) (node c.args.table.now.levels c.args.g.level c.args.g.at).connections) =
-    ap (λ (v : List Row). loose_node c.a_callee-a.result.at v c.as_slice-2.result.now) c.as_slice.ensures.value ∙ ap (λ (v : List ℕ). loose_node c.a_callee-a.result.at c.in_ok-rows.rows.items v) c.as_slice-2.ensures.value
+    ap (λ (v : List Row). loose_node c.a_callee-a.result.at v c.as_slice-2.result.now) c.as_slice.ensures ∙ ap (λ (v : List ℕ). loose_node c.a_callee-a.result.at c.in_ok-rows.rows.items v) c.as_slice-2.ensures
     ∙ ap (λ (v : List Connection). made c.a_callee-a.result.at v) c.in_ok-rows.ensures.rows in
     let r = (merging c.args.table.now.levels c.requires.good c.args.g.level l c.args.g.at c.a_callee-a.result.at c.args.classes.now d c.a_callee-a.ensures.level c.requires.owned c.a_callee-a.ensures.callee d_is c.requires.entries c.requires.grows).1 in
     let s = c.in_ok-merged.ensures.joined in
@@ -122,7 +122,7 @@ pub thin-returns-clause-thin : goal.thin-returns-clause-thin
 thin-returns-clause-thin t c =
     thinned c.args.table.now c.merge.new.table c.intern_tuple-2.new.self c.args.g.level c.args.g.at c.args.labels.now c.as_slice.result.now c.as_slice-2.result.now c.in_ok-to.to c.in_ok-ret-2.ret.at _
     c.requires.good c.in_ok-to.ensures.good c.in_ok-ret-2.ensures.levels c.requires.owned c.requires.entries
-    (subst (λ (v : List ℕ). IsCanon c.args.labels.now v c.as_slice-2.result.now) (sym c.as_slice.ensures.value) (subst (λ (v : List ℕ). IsCanon c.args.labels.now c.in_ok-ranks.ranks.items v) (sym c.as_slice-2.ensures.value) c.in_ok-ranks.ensures.canon))
+    (subst (λ (v : List ℕ). IsCanon c.args.labels.now v c.as_slice-2.result.now) (sym c.as_slice.ensures) (subst (λ (v : List ℕ). IsCanon c.args.labels.now c.in_ok-ranks.ranks.items v) (sym c.as_slice-2.ensures.value) c.in_ok-ranks.ensures.canon))
     c.in_ok-to.ensures.merged c.in_ok-ret-2.ensures.interned refl refl
 
 pub thin_rows-labels_of-requires : goal.thin_rows-labels_of-requires
@@ -164,7 +164,7 @@ thin_rows-loop-i-preserved t c =
     subst (λ (v : List ℕ). IsThin c.thin.new.table r.callee.level (row (pattern now.levels r.callee.level) (returning r.callee.at v)) v b) c.labels_of.ensures c.in_ok-conn.ensures.thin in
     let thin2 : IsThin c.thin.new.table l (row (pattern now.levels l) (row_connection ls r)) (labels_in ls r) b = subst (λ (m : ℕ). IsThin c.thin.new.table m (row (pattern now.levels m) (row_connection ls r)) (labels_in ls r) b) lev thin1 in
     let thin3 : IsThin c.thin.new.table l (row (pattern now.levels l) (connection_at ns i)) (connection_at ns i).returns b = subst (λ (n : Connection). IsThin c.thin.new.table l (row (pattern now.levels l) n) n.returns b) (sym at) thin2 in
-    going c.args.table.now now c.thin.new.table l ns i c.loop-i.conns.items c.push.new.self.items b c.requires.good c.loop-i.invariant lt w.callee_exists thin3 (subst (λ (m : ℕ). AddsParts now.levels c.thin.new.table.levels m b.«to».at) lev c.in_ok-conn.ensures.added) c.in_ok-conn.ensures.good c.in_ok-conn.ensures.extends c.in_ok-conn.ensures.longer c.in_ok-conn.ensures.products c.in_ok-push.ensures.items
+    going c.args.table.now now c.thin.new.table l ns i c.loop-i.conns.items c.push.new.self.items b c.requires.good c.loop-i.invariant lt w.callee_exists thin3 (subst (λ (m : ℕ). AddsParts now.levels c.thin.new.table.levels m b.«to».at) lev c.in_ok-conn.ensures.added) c.in_ok-conn.ensures.good c.in_ok-conn.ensures.extends c.in_ok-conn.ensures.longer c.in_ok-conn.ensures.products c.in_ok-push.ensures.ok
 
 pub join-returns-clause-added : goal.join-returns-clause-added
 join-returns-clause-added t c =
@@ -179,7 +179,7 @@ join-returns-clause-added t c =
     let bs = c.as_slice-4.result.now in
     let classes = c.in_ok-classes.classes.items in
     let thin = c.in_ok-conns.ensures.thin in
-    let canon : IsCanon all classes bs = subst (λ (w : List BConn). IsCanon w classes bs) c.as_slice-2.ensures.value (subst (λ (w : List BConn). IsCanon c.as_slice-2.result.now classes w) (sym c.as_slice-4.ensures.value) c.in_ok-classes.ensures.canon) in
+    let canon : IsCanon all classes bs = subst (λ (w : List BConn). IsCanon w classes bs) c.as_slice-2.ensures (subst (λ (w : List BConn). IsCanon c.as_slice-2.result.now classes w) (sym c.as_slice-4.ensures.value) c.in_ok-classes.ensures.canon) in
     let ca : a < count u l = subst (λ (x : ℕ). a < count u x) m.level m.there in
     let aa : AddsParts s u l a = subst (λ (x : ℕ). AddsParts s u x a) m.level c.in_ok-callee.ensures.added in
     if_ok2 c.intern-2.result _ _ _ c.intern-2.ensures.level c.intern-2.ensures.interned (λ g e h.
@@ -221,7 +221,7 @@ join-intern-requires t' c =
     let d = loose_node c.args.a.at c.args.rows.now c.args.labels.now in
     let all = c.as_slice-then-are_few_and_differ.result.now in
     let j : Joining t s s l d all all (numbers_from 0 (length all)) c.args.a.at =
-    joining_differing t s l d c.in_ok-conns.conns.items c.as_slice.result.now all c.as_slice.ensures.value c.as_slice-then-are_few_and_differ.ensures.value c.requires.good c.requires.loose
+    joining_differing t s l d c.in_ok-conns.conns.items c.as_slice.result.now all c.as_slice.ensures c.as_slice-then-are_few_and_differ.ensures c.requires.good c.requires.loose
     c.in_ok-conns.ensures.good c.in_ok-conns.ensures.extends c.in_ok-conns.ensures.thin c.law.ensures.differ (c.are_few_and_differ.ensures c.if-are_few_and_differ.true) in
     internable t s s l d all all (numbers_from 0 (length all)) c.args.a j refl c.requires.level
 
@@ -233,7 +233,7 @@ join-returns-then-are_few_and_differ-clause-joined t' c =
     let d = loose_node c.args.a.at c.args.rows.now c.args.labels.now in
     let all = c.as_slice-then-are_few_and_differ.result.now in
     let j : Joining t s s l d all all (numbers_from 0 (length all)) c.args.a.at =
-    joining_differing t s l d c.in_ok-conns.conns.items c.as_slice.result.now all c.as_slice.ensures.value c.as_slice-then-are_few_and_differ.ensures.value c.requires.good c.requires.loose
+    joining_differing t s l d c.in_ok-conns.conns.items c.as_slice.result.now all c.as_slice.ensures c.as_slice-then-are_few_and_differ.ensures c.requires.good c.requires.loose
     c.in_ok-conns.ensures.good c.in_ok-conns.ensures.extends c.in_ok-conns.ensures.thin c.law.ensures.differ (c.are_few_and_differ.ensures c.if-are_few_and_differ.true) in
     if_ok2 c.intern.result _ _ _ c.intern.ensures.level c.intern.ensures.interned
     (λ g e h. joined t s s c.intern.new.self l d all all (numbers_from 0 (length all)) c.args.a.at j c.intern.ensures.kept g (e ∙ add-one l) h)
@@ -246,11 +246,11 @@ join-returns-then-are_few_and_differ-clause-added t' c =
     let d = loose_node c.args.a.at c.args.rows.now c.args.labels.now in
     let all = c.as_slice-then-are_few_and_differ.result.now in
     let j : Joining t s s l d all all (numbers_from 0 (length all)) c.args.a.at =
-    joining_differing t s l d c.in_ok-conns.conns.items c.as_slice.result.now all c.as_slice.ensures.value c.as_slice-then-are_few_and_differ.ensures.value c.requires.good c.requires.loose
+    joining_differing t s l d c.in_ok-conns.conns.items c.as_slice.result.now all c.as_slice.ensures c.as_slice-then-are_few_and_differ.ensures c.requires.good c.requires.loose
     c.in_ok-conns.ensures.good c.in_ok-conns.ensures.extends c.in_ok-conns.ensures.thin c.law.ensures.differ (c.are_few_and_differ.ensures c.if-are_few_and_differ.true) in
     let v = c.intern.new.self.levels in
     let thin = c.in_ok-conns.ensures.thin in
-    let conns : c.in_ok-conns.conns.items ≡ all = sym c.as_slice-then-are_few_and_differ.ensures.value in
+    let conns : c.in_ok-conns.conns.items ≡ all = sym c.as_slice-then-are_few_and_differ.ensures in
     let parts : AddsPartsOf t.levels s.levels l all = subst (λ (w : List BConn). AddsPartsOf t.levels s.levels l w) conns c.in_ok-conns.ensures.added in
     if_ok2 c.intern.result _ _ _ c.intern.ensures.level c.intern.ensures.interned (λ g e h.
     (let lev : g.level ≡ suc l = e ∙ add-one l in

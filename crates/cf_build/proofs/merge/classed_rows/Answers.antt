@@ -21,11 +21,11 @@ loop-j-preserved c =
     let labels = c.loop-j.labels in
     let all = c.append_classes.new.labels in
     let exits = c.tuple.result.now in
-    let start : c.len-start.result ≡ length labels.items = omega (arith, c.len-start.ensures, labels.ok) in
-    let end : c.len.result ≡ length all.items = omega (arith, c.len.ensures, all.ok) in
+    let start : c.len-start.result ≡ length labels.items = c.len-start.ensures.value in
+    let end : c.len.result ≡ length all.items = c.len.ensures.value in
     let shown : returning b.«to».at (classed c.args.classes.now exits) ≡ classed_connection c.args.classes.now (connection_at ns c.loop-j.j) =
     ap (λ (r : List ℕ). returning b.«to».at (classed c.args.classes.now r)) c.tuple.ensures ∙ ap (λ (x : Connection). classed_connection c.args.classes.now x) c.connection-conn.ensures.connection in (
       rows_more c.args.classes.now labels.items (classed c.args.classes.now exits) all.items c.loop-j.rows.items c.push.new.self.items _ ns c.loop-j.j c.loop-j.invariant.0.1 c.loop-j.invariant.0.0
-          c.in_ok-push.ensures.items c.in_ok-append_classes.ensures start end shown lt,
-      all_more (λ r. r.callee.level + 1 ≡ c.args.g.level) c.loop-j.rows.items c.push.new.self.items _ c.in_ok-push.ensures.items c.loop-j.invariant.1 c.connection-conn.ensures.level,
+          c.in_ok-push.ensures.ok c.in_ok-append_classes.ensures start end shown lt,
+      all_more (λ r. r.callee.level + 1 ≡ c.args.g.level) c.loop-j.rows.items c.push.new.self.items _ c.in_ok-push.ensures.ok c.loop-j.invariant.1 c.connection-conn.ensures.level,
     )
