@@ -1,11 +1,17 @@
 //! The groupings of constants and of variables.
 
-ghost use Rattle.std.specs.Prelude.{◌≡◌, ◌<◌, ◌≤◌, ◌-◌, ◌%◌, ◌^◌, IfOk};
+ghost use Rattle.std.specs.Prelude.{◌≡◌, ◌<◌, ◌≤◌, ◌-◌, ◌%◌, ◌^◌, length, slice_get, Some, All, IfOk};
+ghost use Rattle.cf_model.specs.Values.{Fits};
+ghost use Rattle.cf_model.specs.Renumbering.{AllDiffer};
 ghost use Rattle.cf_model.specs.Diagrams.{IsGood, Extends};
 ghost use Rattle.cf_tuple.specs.Books.{Lengthens};
 ghost use Rattle.cf_build.specs.Assembling.{Stands};
 ghost use Rattle.cf_pkg.specs.Basics.{constant_pattern, variable_pattern, AreBasics};
+ghost use Rattle.cf_pkg.specs.Packages.{Keeps};
+ghost use Rattle.cf_pkg.specs.Remembering.{IsConstant, IsVariable};
 
+use crate::memo::JobKey;
+use crate::{Func, Pkg};
 use cf_build::assemble;
 use cf_table::{DONT_CARE, FORK, Gid, Table};
 use cf_tuple::NoMemory;
@@ -92,26 +98,6 @@ fn second_above(
     Ok(g)
 }
 
-/// The grouping of the constants of a level, which has one exit.
-pub(crate) fn constant_grouping(
-    alloc: Global,
-    table: &mut Table,
-    level: u8,
-) -> Result<Gid, NoMemory>
-    requires level { level ≤ 7 }
-    requires good { IsGood table.old.levels }
-    ensures stands { IfOk result (λ g. Stands table.new.levels g level (constant_pattern level)) }
-    ensures good { IsGood table.new.levels }
-    ensures extends { Extends table.old.levels table.new.levels }
-    ensures longer { Lengthens table.old.tuples table.new.tuples }
-{
-    if level == 0 {
-        return Ok(DONT_CARE);
-    }
-    let below = constant_grouping(alloc, table, level - 1)?;
-    constant_above(alloc, table, level, below)
-}
-
 /// The grouping of the variable at position i, from those of the level below, whose variable has
 /// the same place in its half.
 fn variable_above(
@@ -137,51 +123,114 @@ fn variable_above(
     second_above(alloc, table, level, i, below)
 }
 
-/// The groupings of a level's constant and of its variable at position i.
-fn constant_and_variable(
-    alloc: Global,
-    table: &mut Table,
-    level: u8,
-    i: u8,
-) -> Result<BasicGroupings, NoMemory>
-    requires level { level ≤ 7 }
-    requires variable { i < 2 ^ level }
-    requires good { IsGood table.old.levels }
-    ensures stand { IfOk result (λ b. AreBasics table.new.levels b level i) }
-    ensures good { IsGood table.new.levels }
-    ensures extends { Extends table.old.levels table.new.levels }
-    ensures longer { Lengthens table.old.tuples table.new.tuples }
-{
-    if level == 0 {
-        return Ok(BasicGroupings {
-            constant: DONT_CARE,
-            variable: FORK,
-        });
+impl Pkg {
+    /// The function of a grouping and the values of its exits, which differ.
+    fn with_values(&mut self, head: Gid, values: &[i128]) -> Result<Func, NoMemory>
+        requires some { 0 < length values.now }
+        requires differ { AllDiffer values.now }
+        requires fit { All Fits values.now }
+        ensures head { IfOk result (λ f. f.head ≡ head) }
+        ensures values { IfOk result (λ f. slice_get self.new.lists f.vals.at ≡ Some values.now) }
+        ensures groupings { self.new.groupings ≡ self.old.groupings }
+        ensures kept { Keeps self.old self.new }
+    {
+        self.table.law();
+        let vals = self.values.intern(values)?;
+        Ok(Func { head, vals })
     }
-    let below = constant_and_variable(alloc, table, level - 1, i % half_of(level))?;
-    let constant = constant_above(alloc, table, level, below.constant)?;
-    let variable = variable_above(alloc, table, level, i, below)?;
-    Ok(BasicGroupings { constant, variable })
-}
 
-/// The grouping of the variable at position i, whose exits are the bit's two values.
-pub(crate) fn variable_grouping(
-    alloc: Global,
-    table: &mut Table,
-    level: u8,
-    i: u8,
-) -> Result<Gid, NoMemory>
-    requires level { level ≤ 7 }
-    requires variable { i < 2 ^ level }
-    requires good { IsGood table.old.levels }
-    ensures stands { IfOk result (λ g. Stands table.new.levels g level (variable_pattern level i)) }
-    ensures good { IsGood table.new.levels }
-    ensures extends { Extends table.old.levels table.new.levels }
-    ensures longer { Lengthens table.old.tuples table.new.tuples }
-{
-    if level == 0 {
-        return Ok(FORK);
+    /// The grouping of a level's constant, from that of the level below.
+    fn constant_over(&mut self, level: u8, below: Gid) -> Result<Gid, NoMemory>
+        requires above { 1 ≤ level }
+        requires level { level ≤ 7 }
+        requires below { Stands self.old.groupings.levels below (level - 1) (constant_pattern (level - 1)) }
+        ensures stands { IfOk result (λ g. Stands self.new.groupings.levels g level (constant_pattern level)) }
+        ensures kept { Keeps self.old self.new }
+    {
+        self.table.law();
+        constant_above(self.alloc, &mut self.table, level, below)
     }
-    let below = constant_and_variable(alloc, table, level - 1, i % half_of(level))?;
-    variable_above(alloc, table, level, i, below)
+
+    /// The grouping of a variable, from those of the level below.
+    fn variable_over(&mut self, level: u8, i: u8, below: BasicGroupings) -> Result<Gid, NoMemory>
+        requires above { 1 ≤ level }
+        requires level { level ≤ 7 }
+        requires variable { i < 2 ^ level }
+        requires below { AreBasics self.old.groupings.levels below (level - 1) (i % 2 ^ (level - 1)) }
+        ensures stands { IfOk result (λ g. Stands self.new.groupings.levels g level (variable_pattern level i)) }
+        ensures kept { Keeps self.old self.new }
+    {
+        self.table.law();
+        variable_above(self.alloc, &mut self.table, level, i, below)
+    }
+
+    /// The function that is v everywhere, from the memo if it is there.
+    #[cycle(constant)]
+    pub(crate) fn known_constant(&mut self, level: u8, v: i128) -> Result<Func, NoMemory>
+        requires level { level ≤ 7 }
+        ensures remembered { IfOk result (λ f. IsConstant self.new f level v) }
+        ensures kept { Keeps self.old self.new }
+    {
+        let key = JobKey::Constant { level, value: v };
+        if let Some(known) = self.remembered(key) {
+            return Ok(known);
+        }
+        let head = self.constant_grouping(level)?;
+        let made = self.with_values(head, &[v])?;
+        self.table().law();
+        self.remember(key, made)?;
+        Ok(made)
+    }
+
+    /// The grouping of the constants of a level, which has one exit.
+    #[cycle(constant)]
+    fn constant_grouping(&mut self, level: u8) -> Result<Gid, NoMemory>
+        requires level { level ≤ 7 }
+        ensures stands { IfOk result (λ g. Stands self.new.groupings.levels g level (constant_pattern level)) }
+        ensures kept { Keeps self.old self.new }
+    {
+        if level == 0 {
+            self.table().law();
+            return Ok(DONT_CARE);
+        }
+        let below = self.known_constant(level - 1, 0)?;
+        self.constant_over(level, below.head)
+    }
+
+    /// The function that is bit i, from the memo if it is there.
+    #[cycle(variable)]
+    pub(crate) fn known_variable(&mut self, level: u8, i: u8) -> Result<Func, NoMemory>
+        requires level { level ≤ 7 }
+        requires variable { i < 2 ^ level }
+        ensures remembered { IfOk result (λ f. IsVariable self.new f level i) }
+        ensures kept { Keeps self.old self.new }
+    {
+        let key = JobKey::Variable { level, position: i };
+        if let Some(known) = self.remembered(key) {
+            return Ok(known);
+        }
+        let head = self.variable_grouping(level, i)?;
+        let made = self.with_values(head, &[0, 1])?;
+        self.table().law();
+        self.remember(key, made)?;
+        Ok(made)
+    }
+
+    /// The grouping of the variable at position i, whose exits are the bit's two values.
+    #[cycle(variable)]
+    fn variable_grouping(&mut self, level: u8, i: u8) -> Result<Gid, NoMemory>
+        requires level { level ≤ 7 }
+        requires variable { i < 2 ^ level }
+        ensures stands { IfOk result (λ g. Stands self.new.groupings.levels g level (variable_pattern level i)) }
+        ensures kept { Keeps self.old self.new }
+    {
+        if level == 0 {
+            self.table().law();
+            return Ok(FORK);
+        }
+        let constant = self.known_constant(level - 1, 0)?.head;
+        self.table().law();
+        let variable = self.known_variable(level - 1, i % half_of(level))?.head;
+        self.variable_over(level, i, BasicGroupings { constant, variable })
+    }
 }

@@ -20,7 +20,6 @@ ghost use Rattle.cf_model.specs.Renumbering.{AllDiffer};
 ghost use Rattle.cf_table.specs.Groupings.{Owns, exits_of};
 ghost use Rattle.cf_pkg.specs.Packages.{no_function, values_of, OwnsFunction, meaning, Means, Keeps};
 
-use basics::{constant_grouping, variable_grouping};
 use cf_bits::Bits;
 use cf_table::steps::Steps;
 use cf_table::{Gid, Table};
@@ -128,25 +127,7 @@ impl Pkg {
         ensures means { IfOk result (λ f. Means self.new f (tabulated level (λ bits. v))) }
         ensures kept { Keeps self.old self.new }
     {
-        let key = JobKey::Constant { level, value: v };
-        if let Some(known) = self.remembered(key) {
-            return Ok(known);
-        }
-        let made = self.make_constant(level, v)?;
-        self.remember(key, made)?;
-        Ok(made)
-    }
-
-    /// The function that is v everywhere, made anew.
-    fn make_constant(&mut self, level: u8, v: i128) -> Result<Func, NoMemory>
-        requires level { level ≤ 7 }
-        ensures means { IfOk result (λ f. Means self.new f (tabulated level (λ bits. v))) }
-        ensures kept { Keeps self.old self.new }
-    {
-        self.table.law();
-        let head = constant_grouping(self.alloc, &mut self.table, level)?;
-        let vals = self.values.intern(&[v])?;
-        Ok(Func { head, vals })
+        self.known_constant(level, v)
     }
 
     /// The function that is bit i, counted from the first, as 0 or 1.
@@ -157,26 +138,7 @@ impl Pkg {
         ensures means { IfOk result (λ f. Means self.new f (variable level i)) }
         ensures kept { Keeps self.old self.new }
     {
-        let key = JobKey::Variable { level, position: i };
-        if let Some(known) = self.remembered(key) {
-            return Ok(known);
-        }
-        let made = self.make_variable(level, i)?;
-        self.remember(key, made)?;
-        Ok(made)
-    }
-
-    /// The function that is bit i, made anew.
-    fn make_variable(&mut self, level: u8, i: u8) -> Result<Func, NoMemory>
-        requires level { level ≤ 7 }
-        requires variable { i < 2 ^ level }
-        ensures means { IfOk result (λ f. Means self.new f (variable level i)) }
-        ensures kept { Keeps self.old self.new }
-    {
-        self.table.law();
-        let head = variable_grouping(self.alloc, &mut self.table, level, i)?;
-        let vals = self.values.intern(&[0, 1])?;
-        Ok(Func { head, vals })
+        self.known_variable(level, i)
     }
 
     /// The value of a function at an assignment of its 2^level variables. Each view of a grouping

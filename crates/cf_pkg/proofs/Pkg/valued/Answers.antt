@@ -63,7 +63,7 @@ returns-clause-means c =
     let g = c.args.g in
     let values = c.args.values.now in
     let ds = c.in_ok-ranks.different.items in
-    let canon : IsCanon values c.as_slice.result.now ds = subst (λ (v : List ℕ). IsCanon values v ds) (sym c.as_slice.ensures.value) c.in_ok-ranks.ensures.canon in
+    let canon : IsCanon values c.as_slice.result.now ds = subst (λ (v : List ℕ). IsCanon values v ds) (sym c.as_slice.ensures) c.in_ok-ranks.ensures.canon in
     let there : slice_get now.lists c.in_ok-vals.vals.at ≡ Some ds = c.in_ok-vals.ensures.interned.is_there ∙ ap Some c.as_slice-2.ensures.value in
     let reduced = subst (λ (l : Levels). Stands c.reduce.new.table.levels c.in_ok-head.head g.level (rgs nat_eq (classed c.as_slice.result.now (pattern l g.level g.at)))) c.forget_beyond.ensures.levels c.in_ok-head.ensures.reduced in
     let made : Means now (record { head = c.in_ok-head.head; vals = record { at = c.in_ok-vals.vals.at } }) (function_of t g.level g.at values)
@@ -84,7 +84,7 @@ reduce-requires-clause-owned c =
 pub reduce-requires-clause-entries : goal.reduce-requires-clause-entries
 reduce-requires-clause-entries c =
     let ranks = c.in_ok-ranks in
-    ap length c.as_slice.ensures.value ∙ canon_length c.args.values.now ranks.ranks.items ranks.different.items ranks.ensures.canon ∙ c.requires.valued
+    ap length c.as_slice.ensures ∙ canon_length c.args.values.now ranks.ranks.items ranks.different.items ranks.ensures.canon ∙ c.requires.valued
     ∙ ap (λ (p : Package). exits p.groupings.levels c.args.g.level c.args.g.at) (sym c.self.view_is) ∙ ap (λ (l : Levels). exits l c.args.g.level c.args.g.at) (sym c.forget_beyond.ensures.levels)
 
 pub returns-clause-added : goal.returns-clause-added
