@@ -43,7 +43,7 @@ use std::sync::ledger::Ledger;
 use steps::Steps;
 
 /// The id of a grouping: its level, from 0 to 7, and its place there.
-#[derive(Clone, Copy, Debug, PartialEq, Eq, Hash)]
+#[derive(Clone, Copy, Debug, Default, PartialEq, Eq, Hash)]
 pub struct Gid {
     pub level: u8,
     pub at: u64,
@@ -51,7 +51,7 @@ pub struct Gid {
 
 /// A B-connection: the callee, and the return tuple, which has for each exit of the callee the
 /// exit of the outer grouping.
-#[derive(Clone, Copy, Debug, PartialEq, Eq, Hash)]
+#[derive(Clone, Copy, Debug, Default, PartialEq, Eq, Hash)]
 pub struct BConn {
     pub to: Gid,
     pub ret: Tid,

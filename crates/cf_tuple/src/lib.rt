@@ -17,7 +17,7 @@ use std::marker::Model;
 pub type NoMemory = AllocError;
 
 /// The id of a list in a book.
-#[derive(Clone, Copy, Debug, PartialEq, Eq, Hash)]
+#[derive(Clone, Copy, Debug, Default, PartialEq, Eq, Hash)]
 pub struct Tid {
     pub at: u64,
 }
