@@ -27,12 +27,28 @@ numbered_more n xs i next now l a le fits e =
     subst (λ (ys : List ℕ). IsNumberedOn n ys now) (sym (take_more xs i 0 l))
     (numbered_append n next now (take i xs) (x ∷ []) a (record { grows = (le, tt); given_out = w; fits = omega (arith, a.fits, w, fits) }))
 
--- one more word
+words_more : {X : Type 0} (f : X → List ℕ) (d : X) (xs : List X) (i : ℕ) → i < length xs → flat_map f (take (i + 1) xs) ≡ flat_map f (take i xs) ++ f (get_or xs i d)
+words_more f d xs i l =
+    ap (flat_map f) (take_more xs i d l) ∙ flat_map-append f (take i xs) (get_or xs i d ∷ []) ∙ ap (λ (ys : List ℕ). flat_map f (take i xs) ++ ys) (append-nil (f (get_or xs i d)))
+
+-- one more word, read in the order of first reach
 pub numbered_word : {X : Type 0} (f : X → List ℕ) (d : X) (xs : List X) (i m k : ℕ) → i < length xs → IsNumberedOn 0 (flat_map f (take i xs)) m → IsNumberedOn m (f (get_or xs i d)) k → IsNumberedOn 0 (flat_map f (take (i + 1) xs)) k
 numbered_word f d xs i m k l a b =
-    let e : flat_map f (take (i + 1) xs) ≡ flat_map f (take i xs) ++ f (get_or xs i d) = ap (flat_map f) (take_more xs i d l) ∙ flat_map-append f (take i xs) (get_or xs i d ∷ []) ∙ ap (λ (ys : List ℕ). flat_map f (take i xs) ++ ys) (append-nil (f (get_or xs i d))) in
-    subst (λ (ys : List ℕ). IsNumberedOn 0 ys k) (sym e) (numbered_append 0 m k (flat_map f (take i xs)) (f (get_or xs i d)) a b)
+    subst (λ (ys : List ℕ). IsNumberedOn 0 ys k) (sym (words_more f d xs i l)) (numbered_append 0 m k (flat_map f (take i xs)) (f (get_or xs i d)) a b)
 
 -- a word that doesn't go on from the words before it
 pub word_stops : {X : Type 0} (f : X → List ℕ) (d : X) (xs : List X) (i m : ℕ) → i < length xs → IsNumberedOn 0 (flat_map f (take i xs)) m → (Grows m (f (get_or xs i d)) → ⊥) → Grows 0 (flat_map f xs) → ⊥
 word_stops f d xs i m l a fails g = fails (subst (λ (j : ℕ). Grows j (f (get_or xs i d))) (sym a.given_out) (pieces f d 0 xs g i l).0)
+
+-- one more entry
+pub width_more : (n : ℕ) (xs : List ℕ) (i next now : ℕ) → i < length xs → next ≡ width n (take i xs) → now ≡ max next (get_or xs i 0 + 1) → now ≡ width n (take (i + 1) xs)
+width_more n xs i next now l a e =
+    let x = get_or xs i 0 in
+    let w : now ≡ max next (suc x) = omega (arith, e) in
+    w ∙ ap (λ (k : ℕ). max k (suc x)) a ∙ sym (width-append n (take i xs) (x ∷ [])) ∙ ap (width n) (sym (take_more xs i 0 l))
+
+-- one more word
+pub width_word : {X : Type 0} (f : X → List ℕ) (d : X) (xs : List X) (i m k : ℕ) → i < length xs → m ≡ width 0 (flat_map f (take i xs)) → k ≡ width m (f (get_or xs i d)) → k ≡ width 0 (flat_map f (take (i + 1) xs))
+width_word f d xs i m k l a b =
+    b ∙ ap (λ (j : ℕ). width j (f (get_or xs i d))) a ∙ sym (width-append 0 (flat_map f (take i xs)) (f (get_or xs i d)))
+    ∙ ap (width 0) (sym (words_more f d xs i l))

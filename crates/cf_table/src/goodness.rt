@@ -64,16 +64,32 @@ fn numbered_exits(table: &Table, bs: &[BConn]) -> Option<u128>
     Some(next)
 }
 
-/// How many exits a good node has. A number that no `u64` holds takes more memory than there is.
+/// How many numbers are given out once the list is read, where `before` were before that. A number that no `u64`
+/// holds takes more memory than there is.
+fn given_out(before: u64, list: &[u64]) -> Result<u64, NoMemory>
+    ensures { IfOk result (λ n. n ≡ width before list.now) }
+{
+    let mut next = before;
+    for &exit in list {
+        if exit == u64::MAX {
+            return Err(AllocError);
+        }
+        next = next.max(exit + 1);
+    }
+    Ok(next)
+}
+
+/// How many exits a good node has.
 pub(crate) fn exits_of(table: &Table, bs: &[BConn]) -> Result<u64, NoMemory>
     requires { All (λ b. OwnsTuple table.now b.ret) bs.now }
     ensures { let connections = map (connection_of table.now.tuples) bs.now in
         IfOk result (λ n. n ≡ width 0 (all_returns connections)) }
 {
-    match numbered_exits(table, bs) {
-        Some(exits) if exits <= u64::MAX as u128 => Ok(exits as u64),
-        _ => Err(AllocError),
+    let mut next = 0;
+    for b in bs {
+        next = given_out(next, table.tuple(b.ret))?;
     }
+    Ok(next)
 }
 
 /// Whether a B-connection is a good one of a node above the level.

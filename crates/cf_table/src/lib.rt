@@ -6,7 +6,10 @@ pub mod laws;
 mod level;
 pub mod steps;
 
-ghost use Rattle.std.specs.Prelude.{◌≡◌, ◌<◌, ◌≤◌, ◌+◌, ◌↔◌, ◌⊎◌, [], ◌∷◌, ◌++◌, All, length, map, slice_get, slice_index_or, Some, IsTrue, IfOk, IfSome, OnOk, OnErr, MatchOption};
+ghost use Rattle.std.specs.Prelude.{◌≡◌, ◌<◌, ◌≤◌, ◌+◌, ◌*◌, ◌%◌, ◌^◌, ◌↔◌, ◌⊎◌, [], ◌∷◌, ◌++◌, All, length, map, slice_get, slice_index_or, Some, IsTrue, IfOk, IfSome, OnOk, OnErr, MatchOption};
+ghost use Rattle.std.proofs.Common.{rules};
+ghost use Rattle.std.specs.Hash as fed;
+ghost use Rattle.std.specs.Cmp.Rules.{hashing};
 ghost use Rattle.cf_model.specs.Renumbering.{AllDiffer, IsNew};
 ghost use Rattle.cf_model.specs.Diagrams.{connection_at, count, node, IsGood, Extends};
 ghost use Rattle.cf_tuple.specs.Books.{IsInterned as IsInternedTuple, Lengthens};
@@ -38,15 +41,27 @@ use indexmap::IndexMap;
 use level::{Level, PackedNode};
 use smallvec::SmallVec;
 use std::alloc::{AllocError, Global};
+use std::hash::{Hash, Hasher};
 use std::marker::Model;
 use std::sync::ledger::Ledger;
 use steps::Steps;
 
 /// The id of a grouping: its level, from 0 to 7, and its place there.
-#[derive(Clone, Copy, Debug, Default, PartialEq, Eq, Hash)]
+#[derive(Clone, Copy, Debug, Default, PartialEq, Eq)]
 pub struct Gid {
     pub level: u8,
     pub at: u64,
+}
+
+impl Hash for Gid {
+    ghost hash_input = { λ g. fed.u64 ((g.at * 8 % 2 ^ 64 + g.level) % 2 ^ 64) };
+
+    ghost respects_eq = { Prim.search (hashing, rules) };
+
+    /// The two numbers go in as one.
+    fn hash<H: Hasher>(&self, state: &mut H) {
+        state.write_u64(self.at.wrapping_mul(8).wrapping_add(self.level as u64));
+    }
 }
 
 /// A B-connection: the callee, and the return tuple, which has for each exit of the callee the

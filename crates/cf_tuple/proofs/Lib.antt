@@ -1,3 +1,4 @@
 pub mod BookLaws
 pub mod Entered
 mod Noted
+mod Small

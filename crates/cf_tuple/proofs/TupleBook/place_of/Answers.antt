@@ -1,4 +1,4 @@
-use Rattle.std.proofs.Common.{◌≡◌, ◌∙◌, ap, subst, List, [], ◌++◌, ℕ, Some, IfSome}
+use Rattle.std.proofs.Common.{◌≡◌, ◌∙◌, ap, subst, List, ◌++◌, ℕ, Some, IfSome}
 use Rattle.std.specs.List.{slice_get}
 use Rattle.cf_tuple.proofs.Noted.{placed}
 use Rattle.cf_tuple.proofs.TupleBook.place_of.Goals as goal
