@@ -15,7 +15,7 @@ ghost use Rattle.cf_top.specs.Ends.{Meets, Completes};
 
 use cf_io::{Files, Sink, Source, put_all};
 use cf_session::Session;
-use cf_text::usage_text;
+use cf_text::{Text, usage_text};
 use script::run_script;
 pub use status::Status;
 use std::alloc::Global;
@@ -72,10 +72,14 @@ pub fn run<S: Source, F: Files, K: Sink>(
 {
     if is_run(words) {
         run_script(alloc, session, script, files, out)
-    } else if put_all(out, usage_text().bytes()) {
-        Status::Usage
     } else {
-        Status::WriteFault
+        let mut text = Text::new();
+        usage_text(&mut text);
+        if put_all(out, text.bytes()) {
+            Status::Usage
+        } else {
+            Status::WriteFault
+        }
     }
 }
 

@@ -18,7 +18,7 @@ use crate::status::Status;
 use cf_io::{Files, Lines, Next, Sink, Source, put_all};
 use cf_script::{ScriptFault, Statement, parse_line};
 use cf_session::{Session, Stepped};
-use cf_text::refused_text;
+use cf_text::{Text, refused_text};
 use std::alloc::Global;
 
 /// What a line did.
@@ -80,20 +80,21 @@ fn run_lines<S: Source, F: Files, K: Sink>(
     ensures files { files.new ≡ files.old }
     ensures kept { Keeps session.old.pkg session.new.pkg }
 {
+    let mut text = Text::new();
     let mut number = 0u64;
     loop {
         number += 1;
         match lines.next_line(script) {
             Next::Line(line) => {
                 if let Carried::Stops(status) = carry_line(
-                    alloc, session, number, line, files, out,
+                    alloc, session, number, line, files, &mut text, out,
                 ) {
                     return status;
                 }
             }
             Next::End => return Status::Done,
-            Next::TooLong => return refuse(Reason::LineTooLong, number, out),
-            Next::ScriptTooLong => return refuse(Reason::ScriptTooLong, number, out),
+            Next::TooLong => return refuse(Reason::LineTooLong, number, &mut text, out),
+            Next::ScriptTooLong => return refuse(Reason::ScriptTooLong, number, &mut text, out),
             Next::ReadFault => return Status::ReadFault,
         }
     }
@@ -106,6 +107,7 @@ fn carry_line<F: Files, K: Sink>(
     number: u64,
     line: &[u8],
     files: &mut F,
+    text: &mut Text,
     out: &mut K,
 ) -> Carried
     ensures carries { IsTrue (K.tells out.old) →
@@ -119,10 +121,15 @@ fn carry_line<F: Files, K: Sink>(
     ensures kept { Keeps session.old.pkg session.new.pkg }
 {
     match parse_line(alloc, line) {
-        Ok(statement) => carry_statement(session, number, &statement, files, out),
-        Err(ScriptFault::Malformed) => Carried::Stops(refuse(Reason::Malformed, number, out)),
-        Err(ScriptFault::WideNumber) => Carried::Stops(refuse(Reason::WideNumber, number, out)),
-        Err(ScriptFault::TooDeep) => Carried::Stops(refuse(Reason::TooDeep, number, out)),
+        Ok(statement) => carry_statement(session, number, &statement, files, text, out),
+        Err(ScriptFault::Malformed) => Carried::Stops(refuse(Reason::Malformed, number, text, out)),
+        Err(ScriptFault::WideNumber) => Carried::Stops(refuse(
+            Reason::WideNumber,
+            number,
+            text,
+            out,
+        )),
+        Err(ScriptFault::TooDeep) => Carried::Stops(refuse(Reason::TooDeep, number, text, out)),
         Err(ScriptFault::NoMemory) => Carried::Stops(Status::NoMemory),
     }
 }
@@ -133,6 +140,7 @@ fn carry_statement<F: Files, K: Sink>(
     number: u64,
     statement: &Statement,
     files: &mut F,
+    text: &mut Text,
     out: &mut K,
 ) -> Carried
     requires { Formed (statement_of statement.now) }
@@ -146,10 +154,10 @@ fn carry_statement<F: Files, K: Sink>(
     ensures files { files.new ≡ files.old }
     ensures kept { Keeps session.old.pkg session.new.pkg }
 {
-    match session.step(files, statement, out) {
+    match session.step(files, statement, text, out) {
         Stepped::Written => Carried::Goes,
         Stepped::Refused(refusal) => {
-            Carried::Stops(refuse(Reason::Statement(refusal), number, out))
+            Carried::Stops(refuse(Reason::Statement(refusal), number, text, out))
         }
         Stepped::WriteFault => Carried::Stops(Status::WriteFault),
         Stepped::FileFault => Carried::Stops(Status::FileFault),
@@ -158,7 +166,7 @@ fn carry_statement<F: Files, K: Sink>(
 }
 
 /// Writes the refusal of a line, which ends the run.
-fn refuse<K: Sink>(reason: Reason, number: u64, out: &mut K) -> Status
+fn refuse<K: Sink>(reason: Reason, number: u64, text: &mut Text, out: &mut K) -> Status
     ensures refused { IsTrue (K.tells out.old) → (s : State) →
         StopsAt (Refuses (reason_view reason)) number s (K.written out.old) s (K.written out.new) result }
     ensures stops { EndsRefusal result }
@@ -166,7 +174,7 @@ fn refuse<K: Sink>(reason: Reason, number: u64, out: &mut K) -> Status
     ensures later { K.faults out.old ≤ K.faults out.new }
     ensures write { result ≡ Status.WriteFault → Rose (K.faults out.old) (K.faults out.new) }
 {
-    let text = refused_text(number, reason.number(), reason.detail());
+    refused_text(number, reason.number(), reason.detail(), text);
     if put_all(out, text.bytes()) {
         Status::Refused
     } else {

@@ -35,7 +35,7 @@ invariant_of-self-2 c = held (record { pkg = c.self.inside.pkg; level = c.self.i
 
 pub returns-clause-goes : goal.returns-clause-goes
 returns-clause-goes c =
-    equal-goes c.args.self.now c.args.name.now c.args.other.now c.in_ok-f.f c.in_ok-g.g c.in_ok-difference.field-0 c.requires.set c.in_ok-f.ensures.named c.in_ok-g.ensures.named c.if-f-g.false
+    equal-goes c.args.self.now c.args.name.now c.args.other.now c.in_ok-f.f c.in_ok-g.g c.difference.new.text c.requires.set c.in_ok-f.ensures.named c.in_ok-g.ensures.named c.if-f-g.false
     (c.in_ok-difference.ensures.answer ∙ ap (λ h. equal_answer (meaning h.pkg c.in_ok-f.f) (meaning h.pkg c.in_ok-g.g)) c.self.view_is)
 
 pub returns-clause-same : goal.returns-clause-same
