@@ -5,11 +5,10 @@ ghost use Rattle.cf_model.specs.Assignments.{bits};
 ghost use Rattle.cf_model.specs.FlatFunctions.{IsFlatFunction, value_at};
 ghost use Rattle.cf_pkg.specs.Packages.{OwnsFunction, Keeps, meaning};
 ghost use Rattle.cf_pkg.specs.Jobs.{AreLevel};
-ghost use Rattle.cf_reference.specs.Trees.{Value, First, Listed, Equal, Size, Stats};
 ghost use Rattle.cf_reference.specs.Words.{is_bits};
 ghost use Rattle.cf_reference.specs.States.{named};
 ghost use Rattle.cf_reference.specs.Answers.{spelled, equal_answer, list_reply};
-ghost use Rattle.cf_reference.specs.Carrying.{Refuses, Goes, lists, step};
+ghost use Rattle.cf_reference.specs.Carrying.{Refuses, Goes, lists, tell_value, tell_first, tell_list, tell_equal, tell_size, tell_stats};
 ghost use Rattle.cf_session.specs.Building.{Grows};
 ghost use Rattle.cf_session.specs.Faults.{reason_of};
 ghost use Rattle.cf_session.specs.Sessions.{state_of};
@@ -100,8 +99,8 @@ impl Session {
     pub(crate) fn value(&self, name: &[u8], bits: &[u8], text: &mut Text) -> Result<(), Refusal>
         requires set { IsSome self.now.level }
         requires bits { IsTrue (is_bits bits.now) }
-        ensures goes { OnOk result (step (state_of self.now) (Value name.now bits.now) ≡ Goes (state_of self.now) text.new) }
-        ensures refused { IfErr result (λ r. step (state_of self.now) (Value name.now bits.now) ≡ Refuses (reason_of r)) }
+        ensures goes { OnOk result (tell_value (state_of self.now) name.now bits.now ≡ Goes (state_of self.now) text.new) }
+        ensures refused { IfErr result (λ r. tell_value (state_of self.now) name.now bits.now ≡ Refuses (reason_of r)) }
     {
         let f = self.ask(name)?;
         let Some(at) = assignment_of(f.head.level, bits) else {
@@ -114,8 +113,8 @@ impl Session {
     /// Makes the text the least assignment at which a function has a value. It takes no memory.
     pub(crate) fn first(&self, name: &[u8], v: i128, text: &mut Text) -> Result<(), Refusal>
         requires set { IsSome self.now.level }
-        ensures goes { OnOk result (step (state_of self.now) (First name.now v) ≡ Goes (state_of self.now) text.new) }
-        ensures refused { IfErr result (λ r. step (state_of self.now) (First name.now v) ≡ Refuses (reason_of r)) }
+        ensures goes { OnOk result (tell_first (state_of self.now) name.now v ≡ Goes (state_of self.now) text.new) }
+        ensures refused { IfErr result (λ r. tell_first (state_of self.now) name.now v ≡ Refuses (reason_of r)) }
     {
         let f = self.ask(name)?;
         match first_value(&self.pkg, f, v) {
@@ -133,9 +132,9 @@ impl Session {
     /// The first assignments at which a function has a value, which are as yet to be written.
     pub(crate) fn list(&self, name: &[u8], v: i128, most: i128) -> Result<Listing, StepFault>
         requires set { IsSome self.now.level }
-        ensures goes { IfOk result (λ l. step (state_of self.now) (Listed name.now v most) ≡ Goes (state_of self.now) (list_reply l)) }
+        ensures goes { IfOk result (λ l. tell_list (state_of self.now) name.now v most ≡ Goes (state_of self.now) (list_reply l)) }
         ensures short { IfOk result (λ l. length l ≤ 1000) }
-        ensures fault { IfErr result (IsFaultOfStep (state_of self.now) (Listed name.now v most)) }
+        ensures fault { IfErr result (IsFaultOfStep (tell_list (state_of self.now) name.now v most)) }
     {
         let f = self.ask(name)?;
         if !lists(most) {
@@ -152,8 +151,8 @@ impl Session {
         text: &mut Text,
     ) -> Result<(), StepFault>
         requires set { IsSome self.old.level }
-        ensures goes { OnOk result (step (state_of self.old) (Equal name.now other.now) ≡ Goes (state_of self.old) text.new) }
-        ensures fault { IfErr result (IsFaultOfStep (state_of self.old) (Equal name.now other.now)) }
+        ensures goes { OnOk result (tell_equal (state_of self.old) name.now other.now ≡ Goes (state_of self.old) text.new) }
+        ensures fault { IfErr result (IsFaultOfStep (tell_equal (state_of self.old) name.now other.now)) }
         ensures same { Grows self.old self.new }
     {
         let f = self.ask(name)?;
@@ -167,8 +166,8 @@ impl Session {
     /// Makes the text how large a function is.
     pub(crate) fn size(&self, name: &[u8], text: &mut Text) -> Result<(), StepFault>
         requires set { IsSome self.now.level }
-        ensures goes { OnOk result (step (state_of self.now) (Size name.now) ≡ Goes (state_of self.now) text.new) }
-        ensures fault { IfErr result (IsFaultOfStep (state_of self.now) (Size name.now)) }
+        ensures goes { OnOk result (tell_size (state_of self.now) name.now ≡ Goes (state_of self.now) text.new) }
+        ensures fault { IfErr result (IsFaultOfStep (tell_size (state_of self.now) name.now)) }
     {
         let f = self.ask(name)?;
         let sizes = self.pkg.sizes(f)?;
@@ -179,8 +178,8 @@ impl Session {
     /// Makes the text how many names are bound, and how large all functions are together.
     pub(crate) fn stats(&self, text: &mut Text) -> Result<(), StepFault>
         requires set { IsSome self.now.level }
-        ensures goes { OnOk result (step (state_of self.now) Stats ≡ Goes (state_of self.now) text.new) }
-        ensures fault { IfErr result (IsFaultOfStep (state_of self.now) Stats) }
+        ensures goes { OnOk result (tell_stats (state_of self.now) ≡ Goes (state_of self.now) text.new) }
+        ensures fault { IfErr result (IsFaultOfStep (tell_stats (state_of self.now))) }
     {
         self.law();
         let mut all = Vec::from_slice(self.alloc, self.variables.functions())?;

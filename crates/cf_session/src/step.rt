@@ -3,12 +3,12 @@
 ghost use Rattle.std.specs.Prelude.{◌≡◌, ◌≢◌, ◌≤◌, ◌++◌, [], length, IsTrue, IsSome, IfErr, OnOk, OnErr};
 ghost use Rattle.cf_io.specs.Causes.{Rose};
 ghost use Rattle.cf_pkg.specs.Packages.{Keeps};
-ghost use Rattle.cf_reference.specs.Trees.{Formed, IsFormed, Level, Vars, Let, Value, First, Listed, Equal, Size, Stats};
+ghost use Rattle.cf_reference.specs.Trees.{Formed, IsFormed};
 ghost use Rattle.cf_reference.specs.Trees as tree;
 ghost use Rattle.cf_reference.specs.Words.{is_bits};
 ghost use Rattle.cf_reference.specs.Answers.{list_reply};
 ghost use Rattle.cf_reference.specs.States.{is_among};
-ghost use Rattle.cf_reference.specs.Carrying.{Goes, step};
+ghost use Rattle.cf_reference.specs.Carrying.{Goes, define, tell_list, step};
 ghost use Rattle.cf_script.specs.Views.{tree_of, statement_of};
 ghost use Rattle.cf_session.specs.Sessions.{state_of};
 ghost use Rattle.cf_session.specs.Stepping.{LeadsTo, Replies, IsAnswerTo, NeedsNoMemory, Puts, Does, sunk, wants_level, lacks_level, Answers, AnswersAlways, stepped_by};
@@ -134,8 +134,8 @@ impl Session {
     fn define(&mut self, name: &[u8], expr: &Expr) -> Result<(), StepFault>
         requires set { IsSome self.old.level }
         requires formed { IsFormed (tree_of expr.now) }
-        ensures goes { OnOk result (step (state_of self.old) (Let name.now (tree_of expr.now)) ≡ Goes (state_of self.new) []) }
-        ensures fault { IfErr result (IsFaultOfStep (state_of self.old) (Let name.now (tree_of expr.now))) }
+        ensures goes { OnOk result (define (state_of self.old) name.now (tree_of expr.now) ≡ Goes (state_of self.new) []) }
+        ensures fault { IfErr result (IsFaultOfStep (define (state_of self.old) name.now (tree_of expr.now))) }
         ensures same { OnErr result (Grows self.old self.new) }
         ensures kept { Keeps self.old.pkg self.new.pkg }
     {
@@ -164,7 +164,7 @@ impl Session {
         out: &mut K,
     ) -> Stepped
         requires set { IsSome self.now.level }
-        ensures { Does (step (state_of self.now) (Listed name.now v most)) self.now self.now (sunk (K.tells out.old) (K.written out.old) (K.faults out.old))
+        ensures { Does (tell_list (state_of self.now) name.now v most) self.now self.now (sunk (K.tells out.old) (K.written out.old) (K.faults out.old))
             (sunk (K.tells out.new) (K.written out.new) (K.faults out.new)) result }
     {
         match self.list(name, v, most) {
@@ -181,12 +181,20 @@ impl Session {
     }
 
     /// Carries out a statement.
-    fn step_on<K: Sink>(&mut self, statement: &Statement, text: &mut Text, out: &mut K) -> Stepped
+    fn step_on<F: Files, K: Sink>(
+        &mut self,
+        files: &mut F,
+        statement: &Statement,
+        text: &mut Text,
+        out: &mut K,
+    ) -> Stepped
         requires { Formed (statement_of statement.now) }
-        ensures does { Does (step (state_of self.old) (statement_of statement.now)) self.old self.new (sunk (K.tells out.old) (K.written out.old) (K.faults out.old))
+        ensures does { Does (step (F.entries files.old) (state_of self.old) (statement_of statement.now)) self.old self.new (sunk (K.tells out.old) (K.written out.old) (K.faults out.old))
             (sunk (K.tells out.new) (K.written out.new) (K.faults out.new)) result }
         ensures memory { NeedsNoMemory (statement_of statement.now) → result ≢ Stepped.NoMemory }
+        ensures files { files.new ≡ files.old }
     {
+        let _ = files;
         if self.lacks_level(statement) {
             return Stepped::Refused(Refusal::NoLevel);
         }
@@ -220,10 +228,10 @@ impl Session {
         out: &mut K,
     ) -> Stepped
         requires { Formed (statement_of statement.now) }
-        ensures leads { LeadsTo (step (state_of self.old) (statement_of statement.now)) self.old self.new result }
-        ensures replies { IsTrue (K.tells out.old) → Replies (step (state_of self.old) (statement_of statement.now)) (K.written out.old) (K.written out.new) result }
+        ensures leads { LeadsTo (step (F.entries files.old) (state_of self.old) (statement_of statement.now)) self.old self.new result }
+        ensures replies { IsTrue (K.tells out.old) → Replies (step (F.entries files.old) (state_of self.old) (statement_of statement.now)) (K.written out.old) (K.written out.new) result }
         ensures complete { (Rose (K.faults out.old) (K.faults out.new) → ⊥) → result ≢ Stepped.NoMemory
-            → IsAnswerTo (step (state_of self.old) (statement_of statement.now)) result }
+            → IsAnswerTo (step (F.entries files.old) (state_of self.old) (statement_of statement.now)) result }
         ensures memory { NeedsNoMemory (statement_of statement.now) → result ≢ Stepped.NoMemory }
         ensures write { result ≡ Stepped.WriteFault → Rose (K.faults out.old) (K.faults out.new) }
         ensures file { result ≢ Stepped.FileFault }
@@ -232,7 +240,6 @@ impl Session {
         ensures later { K.faults out.old ≤ K.faults out.new }
         ensures files { files.new ≡ files.old }
     {
-        let _ = files;
-        self.step_on(statement, text, out)
+        self.step_on(files, statement, text, out)
     }
 }

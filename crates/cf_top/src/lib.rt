@@ -39,7 +39,7 @@ pub fn run<S: Source, F: Files, K: Sink>(
     // level and names the session has then. Only a fault or want of memory cuts it off.
     ensures run { let said = map string_bytes words.now in
         (IsTrue (is_run said) → IsTrue (S.tells script.old)) → IsTrue (K.tells out.old) →
-        Meets (ref said (S.left script.old)) (K.written out.old) (K.written out.new)
+        Meets (ref (F.entries files.old) said (S.left script.old)) (K.written out.old) (K.written out.new)
         (S.taken script.old) (S.taken script.new) (state_of session.new) result }
     ensures complete { let said = map string_bytes words.now in
         (IsTrue (is_run said) → IsTrue (S.tells script.old)) → IsTrue (K.tells out.old) →
@@ -47,7 +47,7 @@ pub fn run<S: Source, F: Files, K: Sink>(
         ¬ Rose (F.faults files.old) (F.faults files.new) →
         ¬ Rose (K.faults out.old) (K.faults out.new) →
         result ≢ Status.NoMemory →
-        Completes (ref said (S.left script.old)) (K.written out.old) (K.written out.new) result }
+        Completes (ref (F.entries files.old) said (S.left script.old)) (K.written out.old) (K.written out.new) result }
 
     // At Done the source has ended, and nothing is left.
     ensures ended { result ≡ Status.Done → IsTrue (S.ended script.new) }

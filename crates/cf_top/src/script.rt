@@ -37,7 +37,7 @@ pub(crate) fn run_script<S: Source, F: Files, K: Sink>(
     out: &mut K,
 ) -> Status
     ensures run { IsTrue (S.tells script.old) → IsTrue (K.tells out.old) →
-        Meets (run_lines (state_of session.old) 1 0 (lines_of (S.left script.old))) (K.written out.old) (K.written out.new)
+        Meets (run_lines (F.entries files.old) (state_of session.old) 1 0 (lines_of (S.left script.old))) (K.written out.old) (K.written out.new)
         (S.taken script.old) (S.taken script.new) (state_of session.new) result }
     ensures ended { result ≡ Status.Done → IsTrue (S.ended script.new) }
     ensures done { IsTrue (S.tells script.old) → result ≡ Status.Done → S.left script.new ≡ [] }
@@ -67,7 +67,7 @@ fn run_lines<S: Source, F: Files, K: Sink>(
 ) -> Status
     requires { lines.old ≡ record { bytes = []; handed = 0; ended = false } }
     ensures run { IsTrue (S.tells script.old) → IsTrue (K.tells out.old) →
-        Meets (run_lines (state_of session.old) 1 0 (lines_of (S.left script.old))) (K.written out.old) (K.written out.new)
+        Meets (run_lines (F.entries files.old) (state_of session.old) 1 0 (lines_of (S.left script.old))) (K.written out.old) (K.written out.new)
         (S.taken script.old) (S.taken script.new) (state_of session.new) result }
     ensures ended { result ≡ Status.Done → IsTrue (S.ended script.new) }
     ensures done { IsTrue (S.tells script.old) → result ≡ Status.Done → S.left script.new ≡ [] }
@@ -111,7 +111,7 @@ fn carry_line<F: Files, K: Sink>(
     out: &mut K,
 ) -> Carried
     ensures carries { IsTrue (K.tells out.old) →
-        Carries (step_parsed (state_of session.old) (parse line.now)) number
+        Carries (step_parsed (F.entries files.old) (state_of session.old) (parse line.now)) number
         (state_of session.old) (K.written out.old) (state_of session.new) (K.written out.new) result }
     ensures stops { EndsLine result }
     ensures told { K.tells out.new ≡ K.tells out.old }
@@ -145,7 +145,7 @@ fn carry_statement<F: Files, K: Sink>(
 ) -> Carried
     requires { Formed (statement_of statement.now) }
     ensures carries { IsTrue (K.tells out.old) →
-        Carries (step (state_of session.old) (statement_of statement.now)) number
+        Carries (step (F.entries files.old) (state_of session.old) (statement_of statement.now)) number
         (state_of session.old) (K.written out.old) (state_of session.new) (K.written out.new) result }
     ensures stops { EndsLine result }
     ensures told { K.tells out.new ≡ K.tells out.old }

@@ -7,7 +7,7 @@ use Rattle.cf_model.specs.Assignments.{bits}
 use Rattle.cf_model.specs.FlatFunctions.{value_at}
 use Rattle.cf_pkg.specs.Packages.{meaning}
 use Rattle.cf_reference.specs.Replies.{value_reply}
-use Rattle.cf_reference.specs.Carrying.{Refuses, Goes, step}
+use Rattle.cf_reference.specs.Carrying.{Refuses, Goes, tell_value}
 use Rattle.cf_session.specs.Faults.{reason_of}
 use Rattle.cf_session.specs.Sessions.{state_of}
 use Rattle.cf_session.proofs.WalkFacts.{handed-on}
@@ -17,7 +17,7 @@ use Rattle.cf_session.proofs.session.Session.value.Goals.{After-value_text}
 
 pub returns-in_err-f-clause-refused : goal.returns-in_err-f-clause-refused
 returns-in_err-f-clause-refused c =
-    handed-on c.from_residual.result c.in_err-f.field-0.0 (λ r. step (state_of c.args.self.now) (Value c.args.name.now c.args.bits.now) ≡ Refuses (reason_of r)) c.from_residual.ensures.1
+    handed-on c.from_residual.result c.in_err-f.field-0.0 (λ r. tell_value (state_of c.args.self.now) c.args.name.now c.args.bits.now ≡ Refuses (reason_of r)) c.from_residual.ensures.1
     (unknown-refused c.args.self.now (Value c.args.name.now c.args.bits.now) c.args.name.now c.in_err-f.field-0.0 c.requires.set refl c.in_err-f.ensures.unknown)
 
 pub returns-in_default-clause-refused : goal.returns-in_default-clause-refused
