@@ -13,7 +13,7 @@ use Rattle.cf_reference.specs.Grammar.{keyword_of, leaf, atom_of}
 use Rattle.cf_reference.specs.LineRefusals.{Malformed, Good}
 use Rattle.cf_reference.specs.Parsing.{parse, is_deep, statement_at, readers}
 use Rattle.cf_reference.specs.Expressions.{part, walk}
-use Rattle.cf_reference.specs.Failures.{parts, failure}
+use Rattle.cf_reference.specs.Failures.{subexpressions, failure}
 use Rattle.cf_reference.specs.States.{initial}
 use Rattle.cf_reference.specs.Carrying.{set_level, declare, define, tell_value, tell_first, tell_list, tell_equal, tell_size, tell_stats}
 use Rattle.cf_reference.specs.Scripts.{text_of, carry_fitting, Done, Refused, Usage, carry, run_lines, ref}
@@ -25,7 +25,7 @@ script [] = []
 script (line ∷ later) = line ++ 10 ∷ script later
 
 abbrev text : List (List ℕ) → List ℕ
-unfolding digits all_bits lines before_comment words natural number place is_name is_bits head_of keyword_of leaf atom_of is_deep statement_at readers walk part parts failure set_level declare define tell_value tell_first tell_list tell_equal tell_size tell_stats carry run_lines
+unfolding digits all_bits lines before_comment words natural number place is_name is_bits head_of keyword_of leaf atom_of is_deep statement_at readers walk part subexpressions failure set_level declare define tell_value tell_first tell_list tell_equal tell_size tell_stats carry run_lines
 text rows = (ref [] (codes "run" ∷ []) (script rows)).text
 
 level_line : parse (codes "level 1") ≡ Good (Level (pos 1))

@@ -14,7 +14,7 @@ use Rattle.cf_model.specs.FlatFunctions.{FlatFunction, IsFlatFunction, value_at,
 use Rattle.cf_model.proofs.FlatFunctionLaws.{fits_decides, tabulated-full}
 use Rattle.cf_model.proofs.TermLaws.{fitting-some}
 use Rattle.cf_reference.specs.Trees.{Tree, Num, At, Named, Call, tree_fits, Statement, Empty, Level, Vars, Let, Value, First, Listed, Equal, Size, Stats, statement_fits}
-use Rattle.cf_reference.specs.Reasons.{Refusal, NoLevel, LevelAgain, NoName, Taken, TooManyVariables, LevelsDiffer, BadLevel, Overflow, unless, where_holds}
+use Rattle.cf_reference.specs.Reasons.{Refusal, NoLevel, LevelAgain, NoName, Taken, TooManyVariables, LevelsDiffer, BadLevel, Overflow, where_holds}
 use Rattle.cf_reference.specs.States.{State, Files, IsState, initial, level_in, is_below, is_among, position_of, function_named, bind, named, is_bound, nothing}
 use Rattle.cf_reference.specs.Answers.{equal_answer}
 use Rattle.cf_reference.specs.Calls.{exact, call_refusal}
@@ -25,7 +25,7 @@ use Rattle.cf_reference.specs.Scripts.{state_of, refuses}
 use Rattle.cf_reference.proofs.FitLaws.{truth_fits}
 use Rattle.cf_reference.proofs.NameLaws.{differ-vars, differ-let}
 use Rattle.cf_reference.proofs.WalkLaws.{refusal-low}
-use Rattle.cf_reference.proofs.TestFacts.{and_then_some, or_none_first, or_none_second, unless_none, right, le_is}
+use Rattle.cf_reference.proofs.TestFacts.{and_then_some, or_none_second, unless_none, right, le_is}
 
 pub initial-holds : IsState initial
 initial-holds = record { low = omega arith; unset = λ e. (refl, refl); room = omega arith; flat = All-nil _; differ = refl }

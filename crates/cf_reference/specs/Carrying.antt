@@ -1,4 +1,4 @@
-use Rattle.std.specs.Prelude.{ℕ, ℤ, pos, ◌+◌, ◌^◌, ◌==◌, ◌&&◌, ◌||◌, nat_le, int_le, nat_abs, not, is_none, is_some, Bool, List, [], ◌∷◌, ◌++◌, length, Option, Some, None, if◌then◌else◌}
+use Rattle.std.specs.Prelude.{ℕ, ℤ, pos, ◌+◌, ◌^◌, ◌==◌, ◌&&◌, ◌||◌, nat_le, int_le, nat_abs, not, is_none, is_some, Bool, List, [], ◌∷◌, ◌++◌, length, Option, Some, None}
 use Rattle.std.specs.List.{list_any}
 use Rattle.std.specs.Option.{option_map}
 use Rattle.cf_model.specs.FlatFunctions.{FlatFunction}
