@@ -1,16 +1,13 @@
--- What the replies say: least assignments, and which statements are refused.
+-- What the replies say of least assignments.
 use Rattle.std.proofs.Common.{ℤ, ◌≡◌, ◌≢◌, Bool, true, false, List, Option, Some, None, refl, ap, sym, ◌∙◌, arith, rules}
 use Rattle.std.specs.Prelude.{not}
 use Rattle.std.specs.Bool.{Decides}
 use Rattle.std.specs.Ordering.{int_eq}
 use Rattle.cf_model.specs.FlatFunctions.{IsAssignment, IsLeast, FlatFunction, IsFlatFunction, value_at, first_passing}
 use Rattle.cf_model.proofs.FlatFunctionLaws.{least_unique, Passes, first_passing-some, first_passing-none}
-use Rattle.cf_reference.specs.Trees.{Statement}
-use Rattle.cf_reference.specs.Reasons.{Refusal}
 use Rattle.cf_reference.specs.Replies.{none_reply, bits_reply, equal_reply, different_reply}
-use Rattle.cf_reference.specs.States.{State, at}
+use Rattle.cf_reference.specs.States.{at}
 use Rattle.cf_reference.specs.Answers.{found_reply, first_answer, equal_reply_at, equal_answer}
-use Rattle.cf_reference.specs.Carrying.{Refuses, Goes, refusal_of, next, reply_of, outcome, step}
 use Rattle.cf_reference.proofs.FailureLaws.{least-is, least-never, least-same}
 
 int_eq_decides : (x y : ℤ) → Decides (int_eq x y) (x ≡ y)
@@ -73,13 +70,3 @@ pub equal_answer-equal : (f g : FlatFunction) → ((bits : List Bool) → IsAssi
     → equal_answer f g ≡ equal_reply
 equal_answer-equal f g same =
     ap (equal_reply_at f g) (least-never f.level (λ b. not (int_eq (at f b) (at g b))) (λ bits a. alike (at f bits) (at g bits) (same bits a)))
-
--- a statement that is refused
-pub step-refused : (s : State) (t : Statement) (r : Refusal) → refusal_of s t ≡ Some r → step s t ≡ Refuses r
-unfolding step
-step-refused s t r e = ap (λ o. outcome o s t) e
-
--- a statement that isn't
-pub step-goes : (s : State) (t : Statement) → refusal_of s t ≡ None → step s t ≡ Goes (next s t) (reply_of s t)
-unfolding step
-step-goes s t e = ap (λ o. outcome o s t) e

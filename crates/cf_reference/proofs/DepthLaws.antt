@@ -10,7 +10,7 @@ use Rattle.cf_reference.specs.declared.grammar.Keyword.TheVariants as keyword
 use Rattle.cf_reference.specs.declared.grammar.Keyword.{Keyword}
 use Rattle.cf_reference.specs.declared.grammar.Head.{Head}
 use Rattle.cf_reference.specs.Heads.{Kind, AnExpression, AVariable, ANatural, ANumber, ABit, head_of, kind_at}
-use Rattle.cf_reference.specs.Words.{before_comment, words, words_of_line, is_blank, is_sign, runs, begins_run, lengthen, open_sign, close_sign, comma, equals, natural, number, place, is_name}
+use Rattle.cf_reference.specs.Words.{behind_word, before_comment, words, words_of_line, is_blank, is_sign, runs, begins_run, lengthen, open_sign, close_sign, comma, equals, natural, number, place, is_name}
 use Rattle.cf_reference.specs.Trees.{Atom, Tree, Num, At, Named, Call, Arguments, none, more, atom, depth, depths, Statement, statement_depth, statement_fits, Formed}
 use Rattle.cf_reference.specs.Grammar.{keyword_of, leaf, atom_of, lead, Calls, SpellsLeaf, SpellsEnd, SpellsTree, SpellsArguments, SpellsBehind, SpellsWords}
 use Rattle.cf_reference.specs.LineRefusals.{IsDeep, LinesSpellFormedStatements}
@@ -344,24 +344,24 @@ let_depth text word name e all rest key is all_is name_is h shallow =
     let c : closed before ≡ 0 = closed_plain word (name ∷ equals ∷ []) p ∙ closed_plain name (equals ∷ []) q in
     depth_within e text before rest [] (is ∙ ap (λ l. word ∷ l) all_is) (c ∙ sym o) h shallow
 
-behind_depth : (text word : List ℕ) (key : Keyword) (t : Statement) (all : List (List ℕ)) → keyword_of word ≡ Some key → words text ≡ word ∷ all → SpellsBehind key t all → (IsDeep text → ⊥) → statement_depth t ≤ 64
-behind_depth text word keyword.Level t all of is h shallow = subst (λ u. statement_depth u ≤ 64) (sym h.4) (omega arith)
-behind_depth text word keyword.Var t all of is h shallow = subst (λ u. statement_depth u ≤ 64) (sym h.2) (omega arith)
-behind_depth text word keyword.Let t all of is h shallow =
+behind_depth : (text word : List ℕ) (key : Keyword) (t : Statement) (bytes : List ℕ) (all : List (List ℕ)) → keyword_of word ≡ Some key → words text ≡ word ∷ all → SpellsBehind key t bytes all → (IsDeep text → ⊥) → statement_depth t ≤ 64
+behind_depth text word keyword.Level t bytes all of is h shallow = subst (λ u. statement_depth u ≤ 64) (sym h.4) (omega arith)
+behind_depth text word keyword.Var t bytes all of is h shallow = subst (λ u. statement_depth u ≤ 64) (sym h.2) (omega arith)
+behind_depth text word keyword.Let t bytes all of is h shallow =
     subst (λ u. statement_depth u ≤ 64) (sym h.6) (let_depth text word h.0 h.1 all h.2 of is h.3 h.4 h.5 shallow)
-behind_depth text word keyword.Value t all of is h shallow = subst (λ u. statement_depth u ≤ 64) (sym h.5) (omega arith)
-behind_depth text word keyword.First t all of is h shallow = subst (λ u. statement_depth u ≤ 64) (sym h.6) (omega arith)
-behind_depth text word keyword.List t all of is h shallow = subst (λ u. statement_depth u ≤ 64) (sym h.9) (omega arith)
-behind_depth text word keyword.Equal t all of is h shallow = subst (λ u. statement_depth u ≤ 64) (sym h.5) (omega arith)
-behind_depth text word keyword.Size t all of is h shallow = subst (λ u. statement_depth u ≤ 64) (sym h.3) (omega arith)
-behind_depth text word keyword.Stats t all of is h shallow = subst (λ u. statement_depth u ≤ 64) (sym h.1) (omega arith)
+behind_depth text word keyword.Value t bytes all of is h shallow = subst (λ u. statement_depth u ≤ 64) (sym h.5) (omega arith)
+behind_depth text word keyword.First t bytes all of is h shallow = subst (λ u. statement_depth u ≤ 64) (sym h.6) (omega arith)
+behind_depth text word keyword.List t bytes all of is h shallow = subst (λ u. statement_depth u ≤ 64) (sym h.9) (omega arith)
+behind_depth text word keyword.Equal t bytes all of is h shallow = subst (λ u. statement_depth u ≤ 64) (sym h.5) (omega arith)
+behind_depth text word keyword.Size t bytes all of is h shallow = subst (λ u. statement_depth u ≤ 64) (sym h.3) (omega arith)
+behind_depth text word keyword.Stats t bytes all of is h shallow = subst (λ u. statement_depth u ≤ 64) (sym h.1) (omega arith)
 
 -- a statement that some words spell is formed where its numbers fit and not more than 64 parentheses are open at once
-pub words_formed : (text : List ℕ) (t : Statement) (all : List (List ℕ)) → words text ≡ all → SpellsWords t all → statement_fits t ≡ true → (IsDeep text → ⊥) → Formed t
+pub words_formed : (text : List ℕ) (t : Statement) (all : List (List ℕ)) → words text ≡ all → SpellsWords t text all → statement_fits t ≡ true → (IsDeep text → ⊥) → Formed t
 words_formed text t [] is h fit shallow = subst Formed (sym h) (record { parts = tt; shallow = omega arith })
 words_formed text t (word ∷ all) is h fit shallow = record {
-  parts = formed_behind h.0 t all h.2 fit;
-  shallow = behind_depth text word h.0 t all h.1 is h.2 shallow;
+  parts = formed_behind h.0 t (behind_word text) all h.2 fit;
+  shallow = behind_depth text word h.0 t (behind_word text) all h.1 is h.2 shallow;
 }
 
 pub formed_statements : LinesSpellFormedStatements

@@ -16,7 +16,7 @@ use Rattle.cf_reference.specs.Trees.{Tree, Num, At, Named, Call, Arguments, none
 use Rattle.cf_reference.specs.States.{State}
 use Rattle.cf_reference.specs.Calls.{Part, flat, Meant, Function}
 use Rattle.cf_reference.specs.Expressions.{part, meant_atom}
-use Rattle.cf_reference.specs.Failures.{failure, first_failure, nested, parts, argument_parts, over, over_arguments, FailuresAreLeast, FailsFirst, OverflowIsFirst}
+use Rattle.cf_reference.specs.Failures.{failure, first_failure, fold_step, subexpressions, argument_subexpressions, over, over_arguments, FailuresAreLeast, FailsFirst, OverflowIsFirst}
 
 -- the least assignment of a level that passes a test, and what there is where there is none
 abbrev pub least : ℕ → (List Bool → Bool) → Option (List Bool)
@@ -160,40 +160,40 @@ with_last ps p = first_failure-append ps (p ∷ []) ∙ ap (option_or (first_fai
 
 -- a number and a position have values everywhere
 pub over-Num : (s : State) (n : ℤ) → over s (Num n) ≡ None
-unfolding parts part
+unfolding subexpressions part
 over-Num s n = or_none (failure (part s (Num n))) ∙ failure-never (part s (Num n)) (λ bits a. (n, refl))
 
 pub over-At : (s : State) (i : ℤ) → over s (At i) ≡ None
-unfolding parts part
+unfolding subexpressions part
 over-At s i = or_none (failure (part s (At i))) ∙ failure-never (part s (At i)) (λ bits a. (_, refl))
 
 pub over-Named : (s : State) (name : List ℕ) → over s (Named name) ≡ failure (part s (Named name))
-unfolding parts
+unfolding subexpressions
 over-Named s name = or_none (failure (part s (Named name)))
 
 -- a call: its arguments, and then itself
 pub over-Call : (s : State) (head : Head) (es : Arguments)
     → over s (Call head es) ≡ option_or (over_arguments s head [] es) (failure (part s (Call head es)))
-unfolding parts
-over-Call s head es = with_last (argument_parts s head [] es) (part s (Call head es))
+unfolding subexpressions
+over-Call s head es = with_last (argument_subexpressions s head [] es) (part s (Call head es))
 
 pub over_arguments-none : (s : State) (head : Head) (done : List Meant) → over_arguments s head done none ≡ None
-unfolding parts
+unfolding subexpressions
 over_arguments-none s head done = refl
 
 pub over_arguments-more : (s : State) (head : Head) (done : List Meant) (e : Tree) (es : Arguments)
-    → over_arguments s head done (more e es) ≡ option_or (first_failure (nested head done)) (option_or (over s e) (over_arguments s head (done ++ Function (flat (part s e)) ∷ []) es))
-unfolding parts
+    → over_arguments s head done (more e es) ≡ option_or (first_failure (fold_step head done)) (option_or (over s e) (over_arguments s head (done ++ Function (flat (part s e)) ∷ []) es))
+unfolding subexpressions
 over_arguments-more s head done e es =
-    let later = argument_parts s head (done ++ Function (flat (part s e)) ∷ []) es in
-    first_failure-append (nested head done) (parts s e ++ later)
-    ∙ ap (option_or (first_failure (nested head done))) (first_failure-append (parts s e) later)
+    let later = argument_subexpressions s head (done ++ Function (flat (part s e)) ∷ []) es in
+    first_failure-append (fold_step head done) (subexpressions s e ++ later)
+    ∙ ap (option_or (first_failure (fold_step head done))) (first_failure-append (subexpressions s e) later)
 
 pub over_arguments-atom : (s : State) (head : Head) (done : List Meant) (a : Atom) (es : Arguments)
-    → over_arguments s head done (atom a es) ≡ option_or (first_failure (nested head done)) (over_arguments s head (done ++ meant_atom s a ∷ []) es)
-unfolding parts
+    → over_arguments s head done (atom a es) ≡ option_or (first_failure (fold_step head done)) (over_arguments s head (done ++ meant_atom s a ∷ []) es)
+unfolding subexpressions
 over_arguments-atom s head done a es =
-    first_failure-append (nested head done) (argument_parts s head (done ++ meant_atom s a ∷ []) es)
+    first_failure-append (fold_step head done) (argument_subexpressions s head (done ++ meant_atom s a ∷ []) es)
 
 pub failures_least : FailuresAreLeast
 failures_least part = by (failure part) refl
@@ -222,4 +222,4 @@ first_failure-some (p ∷ ps) bits e = by (failure p) refl e (first_failure-some
     by (Some other) f e rest = record { earlier = []; part = p; later = ps; are = refl; before = refl; fails = f ∙ e }
 
 pub overflow_first : OverflowIsFirst
-overflow_first s e bits h = first_failure-some (parts s e) bits h
+overflow_first s e bits h = first_failure-some (subexpressions s e) bits h

@@ -67,22 +67,22 @@ mutual
       let both = and_parts (atom_fits a) (arguments_fit es) fit in
       (formed_atom (kind_at head i) h.1.word a h.1.is both.0, formed_arguments es head (suc i) h.0 rest h.2 both.1)
 
-pub formed_behind : (key : Keyword) (t : Statement) (all : List (List ℕ)) → SpellsBehind key t all → statement_fits t ≡ true → IsFormedStatement t
-formed_behind keyword.Level t all h fit =
+pub formed_behind : (key : Keyword) (t : Statement) (bytes : List ℕ) (all : List (List ℕ)) → SpellsBehind key t bytes all → statement_fits t ≡ true → IsFormedStatement t
+formed_behind keyword.Level t bytes all h fit =
     let f : fits h.1 ≡ true = sym (ap statement_fits h.4) ∙ fit in
     subst IsFormedStatement (sym h.4) (natural-low h.0 h.1 h.3, fits-true h.1 f)
-formed_behind keyword.Var t all h fit = subst IsFormedStatement (sym h.2) (leb-true 1 _ h.0)
-formed_behind keyword.Let t all h fit =
+formed_behind keyword.Var t bytes all h fit = subst IsFormedStatement (sym h.2) (leb-true 1 _ h.0)
+formed_behind keyword.Let t bytes all h fit =
     let f : tree_fits h.1 ≡ true = sym (ap statement_fits h.6) ∙ fit in
     subst IsFormedStatement (sym h.6) (formed_tree h.1 h.2 [] h.5 f)
-formed_behind keyword.Value t all h fit = subst IsFormedStatement (sym h.5) h.4
-formed_behind keyword.First t all h fit =
+formed_behind keyword.Value t bytes all h fit = subst IsFormedStatement (sym h.5) h.4
+formed_behind keyword.First t bytes all h fit =
     let f : fits h.2 ≡ true = sym (ap statement_fits h.6) ∙ fit in
     subst IsFormedStatement (sym h.6) (fits-true h.2 f)
-formed_behind keyword.List t all h fit =
+formed_behind keyword.List t bytes all h fit =
     let f : (fits h.3 && fits h.4) ≡ true = sym (ap statement_fits h.9) ∙ fit in
     let both = and_parts (fits h.3) (fits h.4) f in
     subst IsFormedStatement (sym h.9) (fits-true h.3 both.0, (natural-low h.2 h.4 h.8, fits-true h.4 both.1))
-formed_behind keyword.Equal t all h fit = subst IsFormedStatement (sym h.5) tt
-formed_behind keyword.Size t all h fit = subst IsFormedStatement (sym h.3) tt
-formed_behind keyword.Stats t all h fit = subst IsFormedStatement (sym h.1) tt
+formed_behind keyword.Equal t bytes all h fit = subst IsFormedStatement (sym h.5) tt
+formed_behind keyword.Size t bytes all h fit = subst IsFormedStatement (sym h.3) tt
+formed_behind keyword.Stats t bytes all h fit = subst IsFormedStatement (sym h.1) tt

@@ -4,7 +4,7 @@ use Rattle.std.specs.Prelude.{ℕ, List, codes, pos, negsuc}
 use Rattle.cf_model.specs.declared.terms.Word1.TheVariants.{Not}
 use Rattle.cf_model.specs.declared.terms.Word2.TheVariants.{And, Minus, Plus}
 use Rattle.cf_reference.specs.declared.grammar.Keyword.TheVariants as keyword
-use Rattle.cf_reference.specs.Words.{before_comment, words, words_of_line, open_sign, close_sign, comma, natural, number, place, is_name, is_bits}
+use Rattle.cf_reference.specs.Words.{before_comment, words, words_of_line, open_sign, close_sign, comma, natural, number, place, is_name, is_bits, behind_run, behind_word}
 use Rattle.cf_reference.specs.declared.grammar.Head.TheVariants.{Const, One, Fold}
 use Rattle.cf_reference.specs.Heads.{AVariable, ABit, head_of, takes}
 use Rattle.cf_reference.specs.Trees.{Variable, Position, Number, Num, At, Named, Call, none, more, atom, depth, statement_fits, Empty, Level, Vars, Let, Value}
@@ -153,3 +153,16 @@ bits_alone = (refl, refl)
 no_head : parse (codes "let f = restrict(x,y,1)") ≡ Malformed
 unfolding before_comment words is_deep statement_at readers keyword_of head_of leaf atom_of number place natural is_name
 no_head = refl
+
+-- the bytes behind the first word, with the blanks before them
+behind_a_word : behind_word (codes "  value f  10") ≡ codes " f  10"
+unfolding behind_word behind_run
+behind_a_word = refl
+
+behind_a_sign : behind_word (codes "(a") ≡ codes "a"
+unfolding behind_word behind_run
+behind_a_sign = refl
+
+behind_one_word : behind_word (codes "stats") ≡ []
+unfolding behind_word behind_run
+behind_one_word = refl

@@ -5,7 +5,7 @@ use Rattle.cf_reference.specs.declared.grammar.Keyword.{Keyword}
 use Rattle.cf_reference.specs.declared.grammar.Keyword.TheVariants as keyword
 use Rattle.cf_reference.specs.declared.grammar.Head.{Head}
 use Rattle.cf_reference.specs.Heads.{Kind, AnExpression, head_of, kind_at, takes}
-use Rattle.cf_reference.specs.Words.{words_of_line, open_sign, close_sign, comma}
+use Rattle.cf_reference.specs.Words.{before_comment, behind_word, words_of_line, open_sign, close_sign, comma}
 use Rattle.cf_reference.specs.Trees.{Tree, Num, At, Named, Call, Arguments, none, more, atom, Atom, count, Statement}
 use Rattle.cf_reference.specs.Grammar.{keyword_of, leaf, opens, atom_of, lead, SpellsLeaf, SpellsEnd, SpellsAtom, Calls, SpellsTree, SpellsArguments, SpellsBehind, SpellsWords, LinesSpellOneStatement}
 
@@ -131,26 +131,30 @@ mutual
       (ap (λ c. atom c ts) s.0 ∙ ap (atom b) m.0, m.1)
 
 -- the words behind a keyword spell one statement
-pub unique_behind : (key : Keyword) (t u : Statement) (all : List (List ℕ)) → SpellsBehind key t all → SpellsBehind key u all → t ≡ u
-unique_behind keyword.Level t u all h k = cc
-unique_behind keyword.Var t u all h k = cc
-unique_behind keyword.Let t u all h k =
+pub unique_behind : (key : Keyword) (t u : Statement) (bytes : List ℕ) (all : List (List ℕ)) → SpellsBehind key t bytes all → SpellsBehind key u bytes all
+    → t ≡ u
+unique_behind keyword.Level t u bytes all h k = cc
+unique_behind keyword.Var t u bytes all h k = cc
+unique_behind keyword.Let t u bytes all h k =
     let s = unique h.1 h.2 [] k.1 [] h.5 (subst (λ a. SpellsTree k.1 a []) (sym (tail_is (tail_is (sym h.3 ∙ k.3)))) k.5) in
     let e = s.0 in
     cc
-unique_behind keyword.Value t u all h k = cc
-unique_behind keyword.First t u all h k = cc
-unique_behind keyword.List t u all h k = cc
-unique_behind keyword.Equal t u all h k = cc
-unique_behind keyword.Size t u all h k = cc
-unique_behind keyword.Stats t u all h k = cc
+unique_behind keyword.Value t u bytes all h k = cc
+unique_behind keyword.First t u bytes all h k = cc
+unique_behind keyword.List t u bytes all h k = cc
+unique_behind keyword.Equal t u bytes all h k = cc
+unique_behind keyword.Size t u bytes all h k = cc
+unique_behind keyword.Stats t u bytes all h k = cc
 
-pub behind_of : (word : List ℕ) (all : List (List ℕ)) (key : Keyword) (t : Statement) → keyword_of word ≡ Some key → SpellsWords t (word ∷ all) → SpellsBehind key t all
-behind_of word all key t is h = subst (λ (k : Keyword). SpellsBehind k t all) (some_is (sym h.1 ∙ is)) h.2
+pub behind_of : (text word : List ℕ) (all : List (List ℕ)) (key : Keyword) (t : Statement) → keyword_of word ≡ Some key
+    → SpellsWords t text (word ∷ all) → SpellsBehind key t (behind_word text) all
+behind_of text word all key t is h = subst (λ (k : Keyword). SpellsBehind k t (behind_word text) all) (some_is (sym h.1 ∙ is)) h.2
 
-pub unique_words : (t u : Statement) (all : List (List ℕ)) → SpellsWords t all → SpellsWords u all → t ≡ u
-unique_words t u [] h k = h ∙ sym k
-unique_words t u (word ∷ all) h k = unique_behind h.0 t u all h.2 (behind_of word all h.0 u h.1 k)
+pub unique_words : (t u : Statement) (text : List ℕ) (all : List (List ℕ)) → SpellsWords t text all → SpellsWords u text all
+    → t ≡ u
+unique_words t u text [] h k = h ∙ sym k
+unique_words t u text (word ∷ all) h k =
+    unique_behind h.0 t u (behind_word text) all h.2 (behind_of text word all h.0 u h.1 k)
 
 pub one_statement : LinesSpellOneStatement
-one_statement line t u h k = unique_words t u (words_of_line line) h.words k.words
+one_statement line t u h k = unique_words t u (before_comment line) (words_of_line line) h.words k.words

@@ -1,6 +1,6 @@
 -- How names are bound.
-use Rattle.std.proofs.Common.{ℕ, ◌≡◌, ◌≤◌, Bool, true, false, cond, List, [], ◌∷◌, ◌++◌, length, Some, None, refl, ap, sym, ◌∙◌}
-use Rattle.std.specs.Prelude.{◌==◌, ◌&&◌, ◌||◌, nat_le}
+use Rattle.std.proofs.Common.{ℕ, ◌≡◌, ◌≤◌, Bool, true, false, cond, List, [], ◌∷◌, ◌++◌, length, map, Option, Some, None, refl, ap, sym, ◌∙◌, append_assoc}
+use Rattle.std.specs.Prelude.{◌==◌, ◌&&◌, ◌||◌, nat_le, is_some}
 use Rattle.std.specs.List.{list_any, list_all}
 use Rattle.std.specs.Option.{option_or, option_map}
 use Rattle.std.specs.Str.{bytes_eq}
@@ -10,7 +10,7 @@ use Rattle.cf_model.specs.Assignments.{bits_of_text, are_digits}
 use Rattle.cf_model.specs.Renumbering.{place}
 use Rattle.cf_model.specs.FlatFunctions.{FlatFunction, variable}
 use Rattle.cf_reference.specs.Words.{is_bits}
-use Rattle.cf_reference.specs.States.{State, level_in, is_among, position_of, function_named, bind, named, is_bound, repeats}
+use Rattle.cf_reference.specs.States.{State, level_in, is_among, position_of, function_named, bind, named, is_bound, repeats, names_in}
 use Rattle.cf_reference.specs.Answers.{spelled}
 use Rattle.cf_reference.specs.Carrying.{clashes}
 use Rattle.cf_reference.proofs.TestFacts.{same_bytes, left, right, is_le}
@@ -152,3 +152,160 @@ spelled-is text h short =
   where
     all_three : (a b c : Bool) → a ≡ true → b ≡ true → c ≡ true → (a && b) && c ≡ true
     all_three a b c x y z = ap (λ t. (t && b) && c) x ∙ ap (λ t. t && c) y ∙ z
+
+-- Names that differ: what each statement that adds names keeps.
+
+or_assoc : (a b c : Bool) → a || (b || c) ≡ ((a || b) || c)
+or_assoc true b c = refl
+or_assoc false b c = refl
+
+pub among-append : (a b : List (List ℕ)) (name : List ℕ) → is_among (a ++ b) name ≡ (is_among a name || is_among b name)
+among-append [] b name = refl
+among-append (word ∷ a) b name =
+    ap (λ t. bytes_eq word name || t) (among-append a b name) ∙ or_assoc (bytes_eq word name) (is_among a name) (is_among b name)
+
+any_append : (p : List ℕ → Bool) (a b : List (List ℕ)) → list_any p (a ++ b) ≡ (list_any p a || list_any p b)
+any_append p [] b = refl
+any_append p (word ∷ a) b = ap (λ t. p word || t) (any_append p a b) ∙ or_assoc (p word) (list_any p a) (list_any p b)
+
+-- whether two lists of names have a name in common doesn't depend on their order
+any_turned : (a b : List (List ℕ)) → list_any (is_among a) b ≡ list_any (is_among b) a
+any_turned [] b = none_among b
+any_turned (word ∷ a) b = any_first b ∙ ap (λ t. is_among b word || t) (any_turned a b)
+  where
+    shuffle : (x y u v : Bool) → (x || y) || (u || v) ≡ ((x || u) || (y || v))
+    shuffle true y u v = refl
+    shuffle false true true v = refl
+    shuffle false true false v = refl
+    shuffle false false u v = refl
+
+    any_first : (c : List (List ℕ)) → list_any (is_among (word ∷ a)) c ≡ (is_among c word || list_any (is_among a) c)
+    any_first [] = refl
+    any_first (next ∷ c) =
+        ap (λ t. (bytes_eq word next || is_among a next) || t) (any_first c)
+        ∙ ap (λ t. (t || is_among a next) || (is_among c word || list_any (is_among a) c)) (turned_bytes word next)
+        ∙ shuffle (bytes_eq next word) (is_among a next) (is_among c word) (list_any (is_among a) c)
+
+repeats_append : (a b : List (List ℕ)) → repeats (a ++ b) ≡ ((repeats a || repeats b) || list_any (is_among b) a)
+repeats_append [] b = or_false (repeats b)
+  where
+    or_false : (t : Bool) → t ≡ (t || false)
+    or_false true = refl
+    or_false false = refl
+repeats_append (word ∷ a) b =
+    ap (λ t. t || repeats (a ++ b)) (among-append a b word)
+    ∙ ap (λ t. (is_among a word || is_among b word) || t) (repeats_append a b)
+    ∙ shuffle (is_among a word) (is_among b word) (repeats a) (repeats b) (list_any (is_among b) a)
+  where
+    shuffle : (x y u v w : Bool) → (x || y) || ((u || v) || w) ≡ (((x || u) || v) || (y || w))
+    shuffle true y u v w = refl
+    shuffle false true true v w = refl
+    shuffle false true false true w = refl
+    shuffle false true false false w = refl
+    shuffle false false true v w = refl
+    shuffle false false false true w = refl
+    shuffle false false false false w = refl
+
+or_first : (a b : Bool) → a || b ≡ false → a ≡ false
+or_first true b e = e
+or_first false b e = refl
+
+or_second : (a b : Bool) → a || b ≡ false → b ≡ false
+or_second true b e = absurd (false≢true (sym e))
+or_second false b e = e
+
+neither : (a b : Bool) → a ≡ false → b ≡ false → a || b ≡ false
+neither a b x y = ap (λ t. t || b) x ∙ y
+
+-- names without a name twice, of which no name of one list is in the other
+repeats_none : (a b : List (List ℕ)) → repeats a ≡ false → repeats b ≡ false → list_any (is_among b) a ≡ false
+    → repeats (a ++ b) ≡ false
+repeats_none a b x y z =
+    repeats_append a b ∙ neither (repeats a || repeats b) (list_any (is_among b) a) (neither (repeats a) (repeats b) x y) z
+
+-- the names of functions, once one is bound
+names_bind : (fs : List (List ℕ × FlatFunction)) (name : List ℕ) (f : FlatFunction)
+    → map (λ b. b.0) (bind fs name f)
+    ≡ cond (is_among (map (λ b. b.0) fs) name) (map (λ b. b.0) fs) (map (λ b. b.0) fs ++ name ∷ [])
+names_bind [] name f = refl
+names_bind (b ∷ bs) name f =
+    by (bytes_eq name b.0) (bytes_eq b.0 name) (is_among (map (λ b. b.0) bs) name) (turned_bytes name b.0) refl (names_bind bs name f)
+  where
+    by : (t u v : Bool) → t ≡ u → is_among (map (λ b. b.0) bs) name ≡ v
+        → map (λ b. b.0) (bind bs name f)
+        ≡ cond (is_among (map (λ b. b.0) bs) name) (map (λ b. b.0) bs) (map (λ b. b.0) bs ++ name ∷ [])
+        → map (λ b. b.0) (cond t ((b.0, f) ∷ bs) (b ∷ bind bs name f))
+        ≡ cond (u || is_among (map (λ b. b.0) bs) name) (b.0 ∷ map (λ b. b.0) bs) (b.0 ∷ (map (λ b. b.0) bs ++ name ∷ []))
+    by true true v e w later = refl
+    by true false v e w later = absurd (false≢true (sym e))
+    by false true v e w later = absurd (false≢true e)
+    by false false true e w later =
+        ap (λ ns. b.0 ∷ ns) (later ∙ ap (λ t. cond t (map (λ b. b.0) bs) (map (λ b. b.0) bs ++ name ∷ [])) w)
+        ∙ sym (ap (λ t. cond t (b.0 ∷ map (λ b. b.0) bs) (b.0 ∷ (map (λ b. b.0) bs ++ name ∷ []))) w)
+    by false false false e w later =
+        ap (λ ns. b.0 ∷ ns) (later ∙ ap (λ t. cond t (map (λ b. b.0) bs) (map (λ b. b.0) bs ++ name ∷ [])) w)
+        ∙ sym (ap (λ t. cond t (b.0 ∷ map (λ b. b.0) bs) (b.0 ∷ (map (λ b. b.0) bs ++ name ∷ []))) w)
+
+-- A `let` of a name that no variable has leaves the names different.
+pub differ-let : (s : State) (name : List ℕ) (f : FlatFunction) → repeats (names_in s) ≡ false
+    → is_among s.variables name ≡ false → repeats (names_in (record s { functions = bind s.functions name f })) ≡ false
+differ-let s name f h free =
+    ap (λ ns. repeats (s.variables ++ ns)) (names_bind s.functions name f)
+    ∙ by (is_among (map (λ b. b.0) s.functions) name) refl
+  where
+    by : (t : Bool) → is_among (map (λ b. b.0) s.functions) name ≡ t
+        → repeats (s.variables ++ cond t (map (λ b. b.0) s.functions) (map (λ b. b.0) s.functions ++ name ∷ [])) ≡ false
+    by true e = h
+    by false e =
+        ap repeats (sym (append_assoc s.variables (map (λ b. b.0) s.functions) (name ∷ [])))
+        ∙ repeats_none (names_in s) (name ∷ []) h refl
+        (any_turned (name ∷ []) (names_in s) ∙ ap (λ t. t || false) (among-append s.variables (map (λ b. b.0) s.functions) name ∙ neither (is_among s.variables name) (is_among (map (λ b. b.0) s.functions) name) free e))
+
+-- a name is bound where it is one of all names
+bound_among : (s : State) (name : List ℕ) → is_bound s name ≡ is_among (names_in s) name
+bound_among s name =
+    by (is_among s.variables name) ∙ ap (λ t. is_among s.variables name || t) (named_among s.functions)
+    ∙ sym (among-append s.variables (map (λ b. b.0) s.functions) name)
+  where
+    by : (t : Bool)
+        → is_some (option_or (option_map (variable (level_in s)) (cond t (Some (place bytes_eq s.variables name)) None)) (function_named s.functions name))
+        ≡ (t || is_some (function_named s.functions name))
+    by true = refl
+    by false = refl
+
+    at : (t u : Bool) (g : FlatFunction) (o : Option FlatFunction) → t ≡ u → is_some (cond t (Some g) o) ≡ (u || is_some o)
+    at true true g o e = refl
+    at true false g o e = absurd (false≢true (sym e))
+    at false true g o e = absurd (false≢true e)
+    at false false g o e = refl
+
+    named_among : (fs : List (List ℕ × FlatFunction)) → is_some (function_named fs name) ≡ is_among (map (λ b. b.0) fs) name
+    named_among [] = refl
+    named_among (b ∷ fs) =
+        at (bytes_eq name b.0) (bytes_eq b.0 name) b.1 (function_named fs name) (turned_bytes name b.0)
+        ∙ ap (λ t. bytes_eq b.0 name || t) (named_among fs)
+
+any_bound : (s : State) (names : List (List ℕ)) → list_any (is_bound s) names ≡ list_any (is_among (names_in s)) names
+any_bound s [] = refl
+any_bound s (name ∷ names) =
+    ap (λ t. t || list_any (is_bound s) names) (bound_among s name)
+    ∙ ap (λ t. is_among (names_in s) name || t) (any_bound s names)
+
+-- Variables that don't clash leave the names different.
+pub differ-vars : (s : State) (names : List (List ℕ)) → repeats (names_in s) ≡ false → clashes s names ≡ false
+    → repeats (names_in (record s { variables = s.variables ++ names })) ≡ false
+differ-vars s names h e =
+    let vs = s.variables in
+    let fs = map (λ b. b.0) s.functions in
+    let old = sym (repeats_append vs fs) ∙ h in
+    let alone = or_first (repeats vs || repeats fs) (list_any (is_among fs) vs) old in
+    let new = sym (any_bound s names) ∙ or_first (list_any (is_bound s) names) (repeats names) e in
+    let apart = sym (any_append (is_among names) vs fs) ∙ any_turned names (vs ++ fs) ∙ new in
+    repeats_none (vs ++ names) fs
+    (repeats_none vs names (or_first (repeats vs) (repeats fs) alone) (or_second (list_any (is_bound s) names) (repeats names) e)
+    (or_first (list_any (is_among names) vs) (list_any (is_among names) fs) apart))
+    (or_second (repeats vs) (repeats fs) alone)
+    (any_append (is_among fs) vs names
+    ∙ neither (list_any (is_among fs) vs) (list_any (is_among fs) names)
+    (or_second (repeats vs || repeats fs) (list_any (is_among fs) vs) old)
+    (any_turned fs names ∙ or_second (list_any (is_among names) vs) (list_any (is_among names) fs) apart))

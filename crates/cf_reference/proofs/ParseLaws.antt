@@ -7,7 +7,7 @@ use Rattle.std.proofs.lemmas.Slice.Eq.{bytes_eq-Decides}
 use Rattle.std.proofs.lemmas.Bool.{and_parts, and_from, or_cases, leb-true, leb-false, le-leb}
 use Rattle.cf_reference.specs.declared.grammar.Keyword.{Keyword}
 use Rattle.cf_reference.specs.declared.grammar.Keyword.TheVariants as keyword
-use Rattle.cf_reference.specs.Words.{before_comment, words_of_line, equals, natural, number, is_name, is_bits}
+use Rattle.cf_reference.specs.Words.{before_comment, behind_word, words_of_line, equals, natural, number, is_name, is_bits}
 use Rattle.cf_reference.specs.Trees.{Tree, Statement, Level, Vars, Let, Value, First, Listed, Equal, Size, statement_fits}
 use Rattle.cf_reference.specs.Grammar.{keyword_of, SpellsBehind, SpellsWords, Spells}
 use Rattle.cf_reference.specs.LineRefusals.{Parsed, TooDeep, WideNumber, Good, IsDeep, Parses}
@@ -30,13 +30,13 @@ tested_map true f o u h = (refl, mapped f o u h)
 tested_map false f o u h = cc
 
 -- what is found behind each keyword is spelled there
-level_sound : (all : List (List ℕ)) (t : Statement) → behind keyword.Level all ≡ Some t → SpellsBehind keyword.Level t all
-level_sound [] t h = cc
-level_sound (k ∷ []) t h = let m = mapped Level (natural k) t h in (k, m.0, refl, m.1, m.2)
-level_sound (k ∷ w ∷ all) t h = cc
+level_sound : (bytes : List ℕ) (all : List (List ℕ)) (t : Statement) → behind keyword.Level bytes all ≡ Some t → SpellsBehind keyword.Level t bytes all
+level_sound bytes [] t h = cc
+level_sound bytes (k ∷ []) t h = let m = mapped Level (natural k) t h in (k, m.0, refl, m.1, m.2)
+level_sound bytes (k ∷ w ∷ all) t h = cc
 
-vars_sound : (all : List (List ℕ)) (t : Statement) → behind keyword.Var all ≡ Some t → SpellsBehind keyword.Var t all
-vars_sound all t h =
+vars_sound : (bytes : List ℕ) (all : List (List ℕ)) (t : Statement) → behind keyword.Var bytes all ≡ Some t → SpellsBehind keyword.Var t bytes all
+vars_sound bytes all t h =
     let m = tested (nat_le 1 (length all) && list_all is_name all) (Vars all) t h in
     let both = and_parts (nat_le 1 (length all)) (list_all is_name all) m.0 in
     (both.0, both.1, m.1)
@@ -53,109 +53,110 @@ defined_is name (Some found) t h = at (nat_le 1 (length found.1)) refl h
     at true is k = cc
     at false is k = (found.0, ap (λ (l : List (List ℕ)). Some (found.0, l)) (no_words found.1 is), sym (some_is k))
 
-let_sound : (all : List (List ℕ)) (t : Statement) → behind keyword.Let all ≡ Some t → SpellsBehind keyword.Let t all
-let_sound [] t h = cc
-let_sound (name ∷ []) t h = cc
-let_sound (name ∷ sign ∷ rest) t h = at (is_name name) (bytes_eq sign equals) refl refl h
+let_sound : (bytes : List ℕ) (all : List (List ℕ)) (t : Statement) → behind keyword.Let bytes all ≡ Some t → SpellsBehind keyword.Let t bytes all
+let_sound bytes [] t h = cc
+let_sound bytes (name ∷ []) t h = cc
+let_sound bytes (name ∷ sign ∷ rest) t h = at (is_name name) (bytes_eq sign equals) refl refl h
   where
-    at : (x y : Bool) → is_name name ≡ x → bytes_eq sign equals ≡ y → cond (x && y) (defined name ((readers (length rest)).tree_at rest)) None ≡ Some t → SpellsBehind keyword.Let t (name ∷ sign ∷ rest)
+    at : (x y : Bool) → is_name name ≡ x → bytes_eq sign equals ≡ y → cond (x && y) (defined name ((readers (length rest)).tree_at rest)) None ≡ Some t → SpellsBehind keyword.Let t bytes (name ∷ sign ∷ rest)
     at true true named is k =
         let d = defined_is name ((readers (length rest)).tree_at rest) t k in
         (name, d.0, rest, ap (λ w. name ∷ w ∷ rest) ((bytes_eq-Decides sign equals).0 is), named, found-sound d.0 rest [] (length rest) d.1, d.2)
     at true false named is k = cc
     at false y named is k = cc
 
-value_sound : (all : List (List ℕ)) (t : Statement) → behind keyword.Value all ≡ Some t → SpellsBehind keyword.Value t all
-value_sound [] t h = cc
-value_sound (name ∷ []) t h = cc
-value_sound (name ∷ bits ∷ []) t h =
+value_sound : (bytes : List ℕ) (all : List (List ℕ)) (t : Statement) → behind keyword.Value bytes all ≡ Some t → SpellsBehind keyword.Value t bytes all
+value_sound bytes [] t h = cc
+value_sound bytes (name ∷ []) t h = cc
+value_sound bytes (name ∷ bits ∷ []) t h =
     let m = tested (is_name name && is_bits bits) (Value name bits) t h in
     let both = and_parts (is_name name) (is_bits bits) m.0 in
     (name, bits, refl, both.0, both.1, m.1)
-value_sound (name ∷ bits ∷ w ∷ all) t h = cc
+value_sound bytes (name ∷ bits ∷ w ∷ all) t h = cc
 
-first_sound : (all : List (List ℕ)) (t : Statement) → behind keyword.First all ≡ Some t → SpellsBehind keyword.First t all
-first_sound [] t h = cc
-first_sound (name ∷ []) t h = cc
-first_sound (name ∷ v ∷ []) t h = let m = tested_map (is_name name) (First name) (number v) t h in (name, v, m.1.0, refl, m.0, m.1.1, m.1.2)
-first_sound (name ∷ v ∷ w ∷ all) t h = cc
+first_sound : (bytes : List ℕ) (all : List (List ℕ)) (t : Statement) → behind keyword.First bytes all ≡ Some t → SpellsBehind keyword.First t bytes all
+first_sound bytes [] t h = cc
+first_sound bytes (name ∷ []) t h = cc
+first_sound bytes (name ∷ v ∷ []) t h = let m = tested_map (is_name name) (First name) (number v) t h in (name, v, m.1.0, refl, m.0, m.1.1, m.1.2)
+first_sound bytes (name ∷ v ∷ w ∷ all) t h = cc
 
 listed_is : (name : List ℕ) (v m : Option ℤ) (t : Statement) → listed name v m ≡ Some t → (n : ℤ) × (most : ℤ) × (v ≡ Some n) × (m ≡ Some most) × (t ≡ Listed name n most)
 listed_is name None m t h = cc
 listed_is name (Some n) None t h = cc
 listed_is name (Some n) (Some most) t h = (n, most, refl, refl, sym (some_is h))
 
-list_sound : (all : List (List ℕ)) (t : Statement) → behind keyword.List all ≡ Some t → SpellsBehind keyword.List t all
-list_sound [] t h = cc
-list_sound (name ∷ []) t h = cc
-list_sound (name ∷ v ∷ []) t h = cc
-list_sound (name ∷ v ∷ m ∷ []) t h = at (is_name name) refl h
+list_sound : (bytes : List ℕ) (all : List (List ℕ)) (t : Statement) → behind keyword.List bytes all ≡ Some t → SpellsBehind keyword.List t bytes all
+list_sound bytes [] t h = cc
+list_sound bytes (name ∷ []) t h = cc
+list_sound bytes (name ∷ v ∷ []) t h = cc
+list_sound bytes (name ∷ v ∷ m ∷ []) t h = at (is_name name) refl h
   where
-    at : (x : Bool) → is_name name ≡ x → cond x (listed name (number v) (natural m)) None ≡ Some t → SpellsBehind keyword.List t (name ∷ v ∷ m ∷ [])
+    at : (x : Bool) → is_name name ≡ x → cond x (listed name (number v) (natural m)) None ≡ Some t → SpellsBehind keyword.List t bytes (name ∷ v ∷ m ∷ [])
     at true named k = let l = listed_is name (number v) (natural m) t k in (name, v, m, l.0, l.1, refl, named, l.2, l.3, l.4)
     at false named k = cc
-list_sound (name ∷ v ∷ m ∷ w ∷ all) t h = cc
+list_sound bytes (name ∷ v ∷ m ∷ w ∷ all) t h = cc
 
-equal_sound : (all : List (List ℕ)) (t : Statement) → behind keyword.Equal all ≡ Some t → SpellsBehind keyword.Equal t all
-equal_sound [] t h = cc
-equal_sound (name ∷ []) t h = cc
-equal_sound (name ∷ other ∷ []) t h =
+equal_sound : (bytes : List ℕ) (all : List (List ℕ)) (t : Statement) → behind keyword.Equal bytes all ≡ Some t → SpellsBehind keyword.Equal t bytes all
+equal_sound bytes [] t h = cc
+equal_sound bytes (name ∷ []) t h = cc
+equal_sound bytes (name ∷ other ∷ []) t h =
     let m = tested (is_name name && is_name other) (Equal name other) t h in
     let both = and_parts (is_name name) (is_name other) m.0 in
     (name, other, refl, both.0, both.1, m.1)
-equal_sound (name ∷ other ∷ w ∷ all) t h = cc
+equal_sound bytes (name ∷ other ∷ w ∷ all) t h = cc
 
-size_sound : (all : List (List ℕ)) (t : Statement) → behind keyword.Size all ≡ Some t → SpellsBehind keyword.Size t all
-size_sound [] t h = cc
-size_sound (name ∷ []) t h = let m = tested (is_name name) (Size name) t h in (name, refl, m.0, m.1)
-size_sound (name ∷ w ∷ all) t h = cc
+size_sound : (bytes : List ℕ) (all : List (List ℕ)) (t : Statement) → behind keyword.Size bytes all ≡ Some t → SpellsBehind keyword.Size t bytes all
+size_sound bytes [] t h = cc
+size_sound bytes (name ∷ []) t h = let m = tested (is_name name) (Size name) t h in (name, refl, m.0, m.1)
+size_sound bytes (name ∷ w ∷ all) t h = cc
 
-stats_sound : (all : List (List ℕ)) (t : Statement) → behind keyword.Stats all ≡ Some t → SpellsBehind keyword.Stats t all
-stats_sound [] t h = (refl, sym (some_is h))
-stats_sound (w ∷ all) t h = cc
+stats_sound : (bytes : List ℕ) (all : List (List ℕ)) (t : Statement) → behind keyword.Stats bytes all ≡ Some t → SpellsBehind keyword.Stats t bytes all
+stats_sound bytes [] t h = (refl, sym (some_is h))
+stats_sound bytes (w ∷ all) t h = cc
 
-behind_sound : (key : Keyword) (all : List (List ℕ)) (t : Statement) → behind key all ≡ Some t → SpellsBehind key t all
-behind_sound keyword.Level all t h = level_sound all t h
-behind_sound keyword.Var all t h = vars_sound all t h
-behind_sound keyword.Let all t h = let_sound all t h
-behind_sound keyword.Value all t h = value_sound all t h
-behind_sound keyword.First all t h = first_sound all t h
-behind_sound keyword.List all t h = list_sound all t h
-behind_sound keyword.Equal all t h = equal_sound all t h
-behind_sound keyword.Size all t h = size_sound all t h
-behind_sound keyword.Stats all t h = stats_sound all t h
+behind_sound : (key : Keyword) (bytes : List ℕ) (all : List (List ℕ)) (t : Statement) → behind key bytes all ≡ Some t → SpellsBehind key t bytes all
+behind_sound keyword.Level bytes all t h = level_sound bytes all t h
+behind_sound keyword.Var bytes all t h = vars_sound bytes all t h
+behind_sound keyword.Let bytes all t h = let_sound bytes all t h
+behind_sound keyword.Value bytes all t h = value_sound bytes all t h
+behind_sound keyword.First bytes all t h = first_sound bytes all t h
+behind_sound keyword.List bytes all t h = list_sound bytes all t h
+behind_sound keyword.Equal bytes all t h = equal_sound bytes all t h
+behind_sound keyword.Size bytes all t h = size_sound bytes all t h
+behind_sound keyword.Stats bytes all t h = stats_sound bytes all t h
 
 -- what is spelled behind a keyword is found there
 chosen : (t : Bool) (s : Statement) → t ≡ true → cond t (Some s) None ≡ Some s
 chosen t s is = ap (λ b. cond b (Some s) None) is
 
-behind_found : (key : Keyword) (all : List (List ℕ)) (t : Statement) → SpellsBehind key t all → behind key all ≡ Some t
-behind_found keyword.Level all t h = ap (behind keyword.Level) h.2 ∙ ap (option_map Level) h.3 ∙ ap Some (sym h.4)
-behind_found keyword.Var all t h = chosen (nat_le 1 (length all) && list_all is_name all) (Vars all) (and_from (nat_le 1 (length all)) (list_all is_name all) h.0 h.1) ∙ ap Some (sym h.2)
-behind_found keyword.Let all t h =
-    ap (behind keyword.Let) h.3 ∙ ap (λ b. cond (b && true) (defined h.0 ((readers (length h.2)).tree_at h.2)) None) h.4 ∙ ap (defined h.0) (whole-found h.1 h.2 h.5) ∙ ap Some (sym h.6)
-behind_found keyword.Value all t h = ap (behind keyword.Value) h.2 ∙ chosen (is_name h.0 && is_bits h.1) (Value h.0 h.1) (and_from (is_name h.0) (is_bits h.1) h.3 h.4) ∙ ap Some (sym h.5)
-behind_found keyword.First all t h =
-    ap (behind keyword.First) h.3 ∙ ap (λ b. cond b (option_map (First h.0) (number h.1)) None) h.4 ∙ ap (option_map (First h.0)) h.5 ∙ ap Some (sym h.6)
-behind_found keyword.List all t h =
-    ap (behind keyword.List) h.5 ∙ ap (λ b. cond b (listed h.0 (number h.1) (natural h.2)) None) h.6 ∙ ap (λ o. listed h.0 o (natural h.2)) h.7 ∙ ap (listed h.0 (Some h.3)) h.8 ∙ ap Some (sym h.9)
-behind_found keyword.Equal all t h = ap (behind keyword.Equal) h.2 ∙ chosen (is_name h.0 && is_name h.1) (Equal h.0 h.1) (and_from (is_name h.0) (is_name h.1) h.3 h.4) ∙ ap Some (sym h.5)
-behind_found keyword.Size all t h = ap (behind keyword.Size) h.1 ∙ chosen (is_name h.0) (Size h.0) h.2 ∙ ap Some (sym h.3)
-behind_found keyword.Stats all t h = ap (behind keyword.Stats) h.0 ∙ ap Some (sym h.1)
+behind_found : (key : Keyword) (bytes : List ℕ) (all : List (List ℕ)) (t : Statement) → SpellsBehind key t bytes all → behind key bytes all ≡ Some t
+behind_found keyword.Level bytes all t h = ap (behind keyword.Level bytes) h.2 ∙ ap (option_map Level) h.3 ∙ ap Some (sym h.4)
+behind_found keyword.Var bytes all t h = chosen (nat_le 1 (length all) && list_all is_name all) (Vars all) (and_from (nat_le 1 (length all)) (list_all is_name all) h.0 h.1) ∙ ap Some (sym h.2)
+behind_found keyword.Let bytes all t h =
+    ap (behind keyword.Let bytes) h.3 ∙ ap (λ b. cond (b && true) (defined h.0 ((readers (length h.2)).tree_at h.2)) None) h.4 ∙ ap (defined h.0) (whole-found h.1 h.2 h.5) ∙ ap Some (sym h.6)
+behind_found keyword.Value bytes all t h = ap (behind keyword.Value bytes) h.2 ∙ chosen (is_name h.0 && is_bits h.1) (Value h.0 h.1) (and_from (is_name h.0) (is_bits h.1) h.3 h.4) ∙ ap Some (sym h.5)
+behind_found keyword.First bytes all t h =
+    ap (behind keyword.First bytes) h.3 ∙ ap (λ b. cond b (option_map (First h.0) (number h.1)) None) h.4 ∙ ap (option_map (First h.0)) h.5 ∙ ap Some (sym h.6)
+behind_found keyword.List bytes all t h =
+    ap (behind keyword.List bytes) h.5 ∙ ap (λ b. cond b (listed h.0 (number h.1) (natural h.2)) None) h.6 ∙ ap (λ o. listed h.0 o (natural h.2)) h.7 ∙ ap (listed h.0 (Some h.3)) h.8 ∙ ap Some (sym h.9)
+behind_found keyword.Equal bytes all t h = ap (behind keyword.Equal bytes) h.2 ∙ chosen (is_name h.0 && is_name h.1) (Equal h.0 h.1) (and_from (is_name h.0) (is_name h.1) h.3 h.4) ∙ ap Some (sym h.5)
+behind_found keyword.Size bytes all t h = ap (behind keyword.Size bytes) h.1 ∙ chosen (is_name h.0) (Size h.0) h.2 ∙ ap Some (sym h.3)
+behind_found keyword.Stats bytes all t h = ap (behind keyword.Stats bytes) h.0 ∙ ap Some (sym h.1)
 
-words_sound : (all : List (List ℕ)) (t : Statement) → statement_at all ≡ Some t → SpellsWords t all
+words_sound : (text : List ℕ) (all : List (List ℕ)) (t : Statement) → statement_at text all ≡ Some t → SpellsWords t text all
 unfolding statement_at
-words_sound [] t h = sym (some_is h)
-words_sound (word ∷ all) t h = at (keyword_of word) refl h
+words_sound text [] t h = sym (some_is h)
+words_sound text (word ∷ all) t h = at (keyword_of word) refl h
   where
-    at : (o : Option Keyword) → keyword_of word ≡ o → keyed o all ≡ Some t → SpellsWords t (word ∷ all)
+    at : (o : Option Keyword) → keyword_of word ≡ o → keyed o (behind_word text) all ≡ Some t → SpellsWords t text (word ∷ all)
     at None is k = cc
-    at (Some key) is k = (key, is, behind_sound key all t k)
+    at (Some key) is k = (key, is, behind_sound key (behind_word text) all t k)
 
-words_found : (all : List (List ℕ)) (t : Statement) → SpellsWords t all → statement_at all ≡ Some t
+words_found : (text : List ℕ) (all : List (List ℕ)) (t : Statement) → SpellsWords t text all → statement_at text all ≡ Some t
 unfolding statement_at
-words_found [] t h = ap Some (sym h)
-words_found (word ∷ all) t h = ap (λ o. keyed o all) h.1 ∙ behind_found h.0 all t h.2
+words_found text [] t h = ap Some (sym h)
+words_found text (word ∷ all) t h =
+    ap (λ o. keyed o (behind_word text) all) h.1 ∙ behind_found h.0 (behind_word text) all t h.2
 
 -- some prefix is the first n bytes for some n
 prefix_sound : (test : List ℕ → Bool) (text : List ℕ) → some_prefix test text ≡ true → (n : ℕ) × (test (take n text) ≡ true)
@@ -187,7 +188,7 @@ deep_found text h =
     prefix_found (λ front. nat_le (count_by (λ b. b == 41) front + 65) (count_by (λ b. b == 40) front)) text h.0 (le-leb _ _ h.1)
 
 pub lines_parse : LinesParse
-lines_parse line = at (is_deep (before_comment line)) refl (statement_at (words_of_line line)) refl
+lines_parse line = at (is_deep (before_comment line)) refl (statement_at (before_comment line) (words_of_line line)) refl
   where
     shallow : is_deep (before_comment line) ≡ false → IsDeep (before_comment line) → ⊥
     shallow is deep = let e : true ≡ false = sym (deep_found (before_comment line) deep) ∙ is in cc
@@ -196,10 +197,10 @@ lines_parse line = at (is_deep (before_comment line)) refl (statement_at (words_
     fitting t is spelled true fit = (shallow is, spelled, fit)
     fitting t is spelled false fit = (shallow is, (t, spelled, fit))
 
-    at : (d : Bool) → is_deep (before_comment line) ≡ d → (o : Option Statement) → statement_at (words_of_line line) ≡ o → Parses line (cond d TooDeep (judged o))
+    at : (d : Bool) → is_deep (before_comment line) ≡ d → (o : Option Statement) → statement_at (before_comment line) (words_of_line line) ≡ o → Parses line (cond d TooDeep (judged o))
     at true is o e = deep_sound (before_comment line) is
-    at false is None e = (shallow is, λ t h. let k : None ≡ Some t = sym e ∙ words_found (words_of_line line) t h.words in cc)
-    at false is (Some t) e = fitting t is (record { words = words_sound (words_of_line line) t e }) (statement_fits t) refl
+    at false is None e = (shallow is, λ t h. let k : None ≡ Some t = sym e ∙ words_found (before_comment line) (words_of_line line) t h.words in cc)
+    at false is (Some t) e = fitting t is (record { words = words_sound (before_comment line) (words_of_line line) t e }) (statement_fits t) refl
 
 -- what a line comes to by the grammar is what is worked out
 pub parse-is : (line : List ℕ) (p : Parsed) → Parses line p → parse line ≡ p

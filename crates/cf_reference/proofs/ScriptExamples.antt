@@ -13,9 +13,9 @@ use Rattle.cf_reference.specs.Grammar.{keyword_of, leaf, atom_of}
 use Rattle.cf_reference.specs.LineRefusals.{Malformed, Good}
 use Rattle.cf_reference.specs.Parsing.{parse, is_deep, statement_at, readers}
 use Rattle.cf_reference.specs.Expressions.{part, walk}
-use Rattle.cf_reference.specs.Failures.{parts, failure}
+use Rattle.cf_reference.specs.Failures.{subexpressions, failure}
 use Rattle.cf_reference.specs.States.{initial}
-use Rattle.cf_reference.specs.Carrying.{step}
+use Rattle.cf_reference.specs.Carrying.{set_level, declare, define, tell_value, tell_first, tell_list, tell_equal, tell_size, tell_stats}
 use Rattle.cf_reference.specs.Scripts.{text_of, carry_fitting, Done, Refused, Usage, carry, run_lines, ref}
 use Rattle.cf_reference.specs.Lines.{lines, LineTooLong, ScriptTooLong}
 
@@ -25,8 +25,8 @@ script [] = []
 script (line ∷ later) = line ++ 10 ∷ script later
 
 abbrev text : List (List ℕ) → List ℕ
-unfolding digits all_bits lines before_comment words natural number place is_name is_bits head_of keyword_of leaf atom_of is_deep statement_at readers walk part parts failure step carry run_lines
-text rows = (ref (codes "run" ∷ []) (script rows)).text
+unfolding digits all_bits lines before_comment words natural number place is_name is_bits head_of keyword_of leaf atom_of is_deep statement_at readers walk part subexpressions failure set_level declare define tell_value tell_first tell_list tell_equal tell_size tell_stats carry run_lines
+text rows = (ref [] (codes "run" ∷ []) (script rows)).text
 
 level_line : parse (codes "level 1") ≡ Good (Level (pos 1))
 unfolding before_comment words keyword_of natural is_deep statement_at
@@ -185,23 +185,23 @@ unfolding text cut_into sub
 sixth_of_eight = refl
 
 -- a line that is too long, and a script that is
-long_line : text_of 1 (carry_fitting initial [] LineTooLong) ≡ codes "refused 1 2" ++ 10 ∷ []
+long_line : text_of 1 (carry_fitting [] initial [] LineTooLong) ≡ codes "refused 1 2" ++ 10 ∷ []
 unfolding digits
 long_line = refl
 
-long_script : text_of 1 (carry_fitting initial [] ScriptTooLong) ≡ codes "refused 1 3" ++ 10 ∷ []
+long_script : text_of 1 (carry_fitting [] initial [] ScriptTooLong) ≡ codes "refused 1 3" ++ 10 ∷ []
 unfolding digits
 long_script = refl
 
-other_words : (ref (codes "run" ∷ codes "extra" ∷ []) []).close ≡ Usage
+other_words : (ref [] (codes "run" ∷ codes "extra" ∷ []) []).close ≡ Usage
 other_words = refl
 
 -- a last line without a newline is carried out, and its refusal ends the run
-read_to_its_end : ref (codes "run" ∷ []) (codes "level 0" ++ 10 ∷ codes "value f 0")
+read_to_its_end : ref [] (codes "run" ∷ []) (codes "level 0" ++ 10 ∷ codes "value f 0")
     ≡ record { text = codes "refused 2 6" ++ 10 ∷ []; close = Refused; state = record initial { level = Some 0 }; read = 17 }
 unfolding text
 read_to_its_end = refl
 
-done_at_the_end : (ref (codes "run" ∷ []) (codes "level 0" ++ 10 ∷ [])).close ≡ Done
+done_at_the_end : (ref [] (codes "run" ∷ []) (codes "level 0" ++ 10 ∷ [])).close ≡ Done
 unfolding text
 done_at_the_end = refl

@@ -1,6 +1,6 @@
 -- What holds of each state that a run reaches.
-use Rattle.std.proofs.Common.{ℕ, ℤ, suc, ◌≡◌, ◌≤◌, ◌<◌, ◌+◌, ◌^◌, pos, Bool, length-append, true, false, cond, List, [], ◌∷◌, length, Option, Some, None, refl, ap, sym, subst, ◌∙◌, arith}
-use Rattle.std.specs.Prelude.{All, unwrap_or, int_le, int_lt, nat_abs, nat_lt, is_some, not, negsuc}
+use Rattle.std.proofs.Common.{ℕ, ℤ, suc, ◌≡◌, ◌≤◌, ◌<◌, ◌+◌, ◌^◌, pos, Bool, length-append, true, false, cond, List, [], ◌∷◌, ◌++◌, length, Option, Some, None, refl, ap, sym, subst, ◌∙◌, arith}
+use Rattle.std.specs.Prelude.{All, unwrap_or, int_le, int_lt, nat_abs, nat_lt, is_some, is_none, not, negsuc, ◌==◌}
 use Rattle.std.specs.Option.{option_or, option_map}
 use Rattle.std.specs.Str.{bytes_eq}
 use Rattle.std.proofs.lemmas.Bool.{false≢true}
@@ -14,19 +14,21 @@ use Rattle.cf_model.specs.FlatFunctions.{FlatFunction, IsFlatFunction, value_at,
 use Rattle.cf_model.proofs.FlatFunctionLaws.{fits_decides, tabulated-full}
 use Rattle.cf_model.proofs.TermLaws.{fitting-some}
 use Rattle.cf_reference.specs.Trees.{Tree, Num, At, Named, Call, tree_fits, Statement, Empty, Level, Vars, Let, Value, First, Listed, Equal, Size, Stats, statement_fits}
-use Rattle.cf_reference.specs.Reasons.{Refusal, NoLevel, LevelAgain, NoName, Taken, TooManyVariables, BadLevel, Overflow, unless}
-use Rattle.cf_reference.specs.States.{State, IsState, initial, level_in, is_below, is_among, position_of, function_named, bind, named, is_bound, nothing}
+use Rattle.cf_reference.specs.Reasons.{Refusal, NoLevel, LevelAgain, NoName, Taken, TooManyVariables, LevelsDiffer, BadLevel, Overflow, where_holds}
+use Rattle.cf_reference.specs.States.{State, Files, IsState, initial, level_in, is_below, is_among, position_of, function_named, bind, named, is_bound, nothing}
+use Rattle.cf_reference.specs.Answers.{equal_answer}
 use Rattle.cf_reference.specs.Calls.{exact, call_refusal}
 use Rattle.cf_reference.specs.Expressions.{part, meant, level, walk, walks, value}
 use Rattle.cf_reference.specs.Failures.{over}
-use Rattle.cf_reference.specs.Carrying.{Goes, clashes, have_room, refusal_within, refusal_without, refusal_at, refusal_of, function_from, next, outcome, step}
+use Rattle.cf_reference.specs.Carrying.{Outcome, Goes, unless_refused, needs_level, with_function, asks, clashes, have_room, function_from, set_level, declare, define, tell_value, tell_first, tell_list, tell_equal, tell_size, tell_stats, step}
 use Rattle.cf_reference.specs.Scripts.{state_of, refuses}
 use Rattle.cf_reference.proofs.FitLaws.{truth_fits}
+use Rattle.cf_reference.proofs.NameLaws.{differ-vars, differ-let}
 use Rattle.cf_reference.proofs.WalkLaws.{refusal-low}
-use Rattle.cf_reference.proofs.TestFacts.{and_then_some, or_none_first, or_none_second, unless_none, right, le_is}
+use Rattle.cf_reference.proofs.TestFacts.{and_then_some, or_none_second, unless_none, right, le_is}
 
 pub initial-holds : IsState initial
-initial-holds = record { low = omega arith; unset = λ e. (refl, refl); room = omega arith; flat = All-nil _ }
+initial-holds = record { low = omega arith; unset = λ e. (refl, refl); room = omega arith; flat = All-nil _; differ = refl }
 
 -- a value that fits, if there is one
 abbrev FitsIf : Option ℤ → Type 0
@@ -126,66 +128,121 @@ bind_flat (b ∷ bs) name f h flat =
     by true later = All-cons (λ b. IsFlatFunction b.1) (b.0, f) bs flat (All-tail (λ b. IsFlatFunction b.1) b bs h)
     by false later = All-cons (λ b. IsFlatFunction b.1) b (bind bs name f) (All-head (λ b. IsFlatFunction b.1) b bs h) later
 
--- A statement that isn't refused leads to such a state again.
-within_holds : (s : State) (k : ℕ) (t : Statement) → s.level ≡ Some k → IsState s → statement_fits t ≡ true
-    → refusal_within s t ≡ None → IsState (next s t)
-within_holds s k Empty l h fit e = h
-within_holds s k (Level n) l h fit e = absurd (none-some LevelAgain (sym e))
-within_holds s k (Vars names) l h fit e =
-    let room = unless_none (have_room s names) TooManyVariables (or_none_second (unless (not (clashes s names)) Taken) (unless (have_room s names) TooManyVariables) e) in
-    record {
+-- an outcome whose first refusal doesn't count
+pub unless_refused-passes : (first : Option Refusal) (later : List (Option Refusal)) (outcome : Outcome) (u : State)
+    (reply : List ℕ) → unless_refused (first ∷ later) outcome ≡ Goes u reply
+    → (first ≡ None) × (unless_refused later outcome ≡ Goes u reply)
+unless_refused-passes None later outcome u reply e = (refl, e)
+unless_refused-passes (Some r) later outcome u reply e = absurd (false≢true (sym (ap refuses e)))
+
+-- a rule that counts for nothing
+lack_none : (s : State) → needs_level s ≡ None → s.level ≡ None → ⊥
+lack_none s e none = none-some NoLevel (sym e ∙ ap (λ (o : Option ℕ). where_holds (is_none o) NoLevel) none)
+
+holds_not : (b : Bool) (r : Refusal) → where_holds b r ≡ None → b ≡ false
+holds_not false r e = refl
+holds_not true r e = absurd (none-some r (sym e))
+
+not_false : (b : Bool) → not b ≡ false → b ≡ true
+not_false true e = refl
+not_false false e = absurd (false≢true (sym e))
+
+-- an answer leaves the state
+abbrev Keeps : State → Outcome → Type 0
+Keeps s outcome = (u : State) (reply : List ℕ) → outcome ≡ Goes u reply → s ≡ u
+
+keeps_here : (s : State) (text : List ℕ) → Keeps s (Goes s text)
+keeps_here s text u reply e = ap (state_of s) e
+
+keeps_unless : (s : State) (first : Option Refusal) (later : List (Option Refusal)) (outcome : Outcome)
+    → Keeps s (unless_refused later outcome) → Keeps s (unless_refused (first ∷ later) outcome)
+keeps_unless s first later outcome h u reply e = h u reply (unless_refused-passes first later outcome u reply e).1
+
+keeps_function : (s : State) (found : Option FlatFunction) (answer : FlatFunction → Outcome)
+    → ((f : FlatFunction) → Keeps s (answer f)) → Keeps s (with_function found answer)
+keeps_function s None answer h u reply e = absurd (false≢true (sym (ap refuses e)))
+keeps_function s (Some f) answer h u reply e = h f u reply e
+
+keeps_asked : (s : State) (name : List ℕ) (answer : FlatFunction → Outcome) → ((f : FlatFunction) → Keeps s (answer f))
+    → Keeps s (asks s name answer)
+keeps_asked s name answer h =
+    keeps_unless s (needs_level s) [] (with_function (named s name) answer) (keeps_function s (named s name) answer h)
+
+set_holds : (s u : State) (n : ℤ) (reply : List ℕ) → IsState s → set_level s n ≡ Goes u reply → IsState u
+unfolding set_level
+set_holds s u n reply h e =
+    let goes = Goes (record s { level = Some (nat_abs n) }) [] in
+    let again = unless_refused-passes (where_holds (is_some s.level) LevelAgain) (where_holds (not (is_below n 8)) BadLevel ∷ []) goes u reply e in
+    let high = unless_refused-passes (where_holds (not (is_below n 8)) BadLevel) [] goes u reply again.1 in
+    subst (λ (v : State). IsState v) (ap (state_of s) high.1)
+    (record {
+      low = below_is n 7 (not_false (is_below n 8) (holds_not (not (is_below n 8)) BadLevel high.0));
+      unset = λ c. absurd (none-some (nat_abs n) (sym c));
+      room = subst (λ (vs : List (List ℕ)). length vs ≤ 2 ^ nat_abs n) (sym (h.unset (unset s.level (holds_not (is_some s.level) LevelAgain again.0))).0) (omega arith);
+      flat = h.flat;
+      differ = h.differ;
+    })
+  where
+    unset : (o : Option ℕ) → is_some o ≡ false → o ≡ None
+    unset None e = refl
+    unset (Some k) e = absurd (false≢true (sym e))
+
+declare_holds : (s u : State) (names : List (List ℕ)) (reply : List ℕ) → IsState s → declare s names ≡ Goes u reply
+    → IsState u
+unfolding declare
+declare_holds s u names reply h e =
+    let goes = Goes (record s { variables = s.variables ++ names }) [] in
+    let many = where_holds (not (have_room s names)) TooManyVariables in
+    let lack = unless_refused-passes (needs_level s) (where_holds (clashes s names) Taken ∷ many ∷ []) goes u reply e in
+    let free = unless_refused-passes (where_holds (clashes s names) Taken) (many ∷ []) goes u reply lack.1 in
+    let fits = unless_refused-passes many [] goes u reply free.1 in
+    let room = not_false (have_room s names) (holds_not (not (have_room s names)) TooManyVariables fits.0) in
+    subst (λ (v : State). IsState v) (ap (state_of s) fits.1)
+    (record {
       low = h.low;
-      unset = λ n. absurd (none-some k (sym n ∙ l));
+      unset = λ n. absurd (lack_none s lack.0 n);
       room =
           subst (λ (m : ℕ). m ≤ 2 ^ level_in s) (sym (length-append s.variables names)) (le_is (length s.variables + length names) (2 ^ level_in s) room);
       flat = h.flat;
-    }
-within_holds s k (Let name u) l h fit e =
-    let walked = or_none_first (walk s u) (option_map Overflow (over s u)) (or_none_second (unless (not (is_among s.variables name)) Taken) (option_or (walk s u) (option_map Overflow (over s u))) e) in
-    record {
+      differ = differ-vars s names h.differ (holds_not (clashes s names) Taken free.0);
+    })
+
+define_holds : (s u : State) (name : List ℕ) (e : Tree) (reply : List ℕ) → IsState s → tree_fits e ≡ true
+    → define s name e ≡ Goes u reply → IsState u
+unfolding define
+define_holds s u name e reply h fit g =
+    let goes = Goes (record s { functions = bind s.functions name (function_from s e) }) [] in
+    let over_it = option_map Overflow (over s e) in
+    let lack = unless_refused-passes (needs_level s) (where_holds (is_among s.variables name) Taken ∷ walk s e ∷ over_it ∷ []) goes u reply g in
+    let free = unless_refused-passes (where_holds (is_among s.variables name) Taken) (walk s e ∷ over_it ∷ []) goes u reply lack.1 in
+    let walked = unless_refused-passes (walk s e) (over_it ∷ []) goes u reply free.1 in
+    let fits = unless_refused-passes over_it [] goes u reply walked.1 in
+    subst (λ (v : State). IsState v) (ap (state_of s) fits.1)
+    (record {
       low = h.low;
-      unset = λ n. absurd (none-some k (sym n ∙ l));
+      unset = λ n. absurd (lack_none s lack.0 n);
       room = h.room;
-      flat = bind_flat s.functions name (function_from s u) h.flat (function_from-flat s u h fit walked);
-    }
-within_holds s k (Value name bits) l h fit e = h
-within_holds s k (First name v) l h fit e = h
-within_holds s k (Listed name v most) l h fit e = h
-within_holds s k (Equal name other) l h fit e = h
-within_holds s k (Size name) l h fit e = h
-within_holds s k Stats l h fit e = h
+      flat = bind_flat s.functions name (function_from s e) h.flat (function_from-flat s e h fit walked.0);
+      differ = differ-let s name (function_from s e) h.differ (holds_not (is_among s.variables name) Taken free.0);
+    })
 
-without_holds : (s : State) (t : Statement) → s.level ≡ None → IsState s → refusal_without t ≡ None → IsState (next s t)
-without_holds s Empty l h e = h
-without_holds s (Level n) l h e =
-    record {
-      low = below_is n 7 (unless_none (is_below n 8) BadLevel e);
-      unset = λ c. absurd (none-some (nat_abs n) (sym c));
-      room = subst (λ (vs : List (List ℕ)). length vs ≤ 2 ^ nat_abs n) (sym (h.unset l).0) (omega arith);
-      flat = h.flat;
-    }
-without_holds s (Vars names) l h e = absurd (none-some NoLevel (sym e))
-without_holds s (Let name u) l h e = absurd (none-some NoLevel (sym e))
-without_holds s (Value name bits) l h e = h
-without_holds s (First name v) l h e = h
-without_holds s (Listed name v most) l h e = h
-without_holds s (Equal name other) l h e = h
-without_holds s (Size name) l h e = h
-without_holds s Stats l h e = h
-
-pub next-holds : (s : State) (t : Statement) → IsState s → statement_fits t ≡ true → refusal_of s t ≡ None
-    → IsState (next s t)
-next-holds s t h fit e = by s.level refl
-  where
-    by : (o : Option ℕ) → s.level ≡ o → IsState (next s t)
-    by None l = without_holds s t l h (sym (ap (λ o. refusal_at o s t) l) ∙ e)
-    by (Some k) l = within_holds s k t l h fit (sym (ap (λ o. refusal_at o s t) l) ∙ e)
-
-pub step-holds : (s u : State) (t : Statement) (reply : List ℕ) → IsState s → statement_fits t ≡ true
-    → step s t ≡ Goes u reply → IsState u
-unfolding step
-step-holds s u t reply h fit e = by (refusal_of s t) refl e
-  where
-    by : (o : Option Refusal) → refusal_of s t ≡ o → outcome o s t ≡ Goes u reply → IsState u
-    by None r e = subst (λ (v : State). IsState v) (ap (state_of s) e) (next-holds s t h fit r)
-    by (Some r) o e = absurd (false≢true (sym (ap refuses e)))
+-- A statement that isn't refused leads to such a state again.
+pub step-holds : (files : Files) (s u : State) (t : Statement) (reply : List ℕ) → IsState s → statement_fits t ≡ true
+    → step files s t ≡ Goes u reply → IsState u
+unfolding tell_value tell_first tell_list tell_equal tell_size tell_stats
+step-holds files s u Empty reply h fit e = subst (λ (v : State). IsState v) (keeps_here s [] u reply e) h
+step-holds files s u (Level n) reply h fit e = set_holds s u n reply h e
+step-holds files s u (Vars names) reply h fit e = declare_holds s u names reply h e
+step-holds files s u (Let name t) reply h fit e = define_holds s u name t reply h fit e
+step-holds files s u (Value name bits) reply h fit e =
+    subst (λ (v : State). IsState v) (keeps_asked s name _ (λ f. keeps_unless s _ [] _ (keeps_here s _)) u reply e) h
+step-holds files s u (First name n) reply h fit e =
+    subst (λ (v : State). IsState v) (keeps_asked s name _ (λ f. keeps_here s _) u reply e) h
+step-holds files s u (Listed name n most) reply h fit e =
+    subst (λ (v : State). IsState v) (keeps_asked s name _ (λ f. keeps_unless s _ [] _ (keeps_here s _)) u reply e) h
+step-holds files s u (Equal name other) reply h fit e =
+    subst (λ (v : State). IsState v) (keeps_asked s name _ (λ f. keeps_function s (named s other) _ (λ g. keeps_unless s (where_holds (not (f.level == g.level)) LevelsDiffer) [] (Goes s (equal_answer f g)) (keeps_here s (equal_answer f g)))) u reply e) h
+step-holds files s u (Size name) reply h fit e =
+    subst (λ (v : State). IsState v) (keeps_asked s name _ (λ f. keeps_here s _) u reply e) h
+step-holds files s u Stats reply h fit e =
+    subst (λ (v : State). IsState v) (keeps_unless s _ [] _ (keeps_here s _) u reply e) h

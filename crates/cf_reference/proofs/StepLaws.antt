@@ -1,130 +1,203 @@
 -- What each statement does, and when it is refused.
-use Rattle.std.proofs.Common.{ℕ, ℤ, ◌≡◌, ◌≢◌, ◌^◌, Bool, true, false, List, [], ◌++◌, length, Option, Some, None, refl, ap, sym, ◌∙◌, arith, ◌⊎◌, inl, inr}
-use Rattle.std.specs.Prelude.{is_some, ◌==◌, ◌&&◌, nat_abs, not, unwrap_or}
-use Rattle.std.specs.Option.{option_or, option_map}
+use Rattle.std.proofs.Common.{ℕ, ℤ, ◌≡◌, ◌≢◌, ◌^◌, Bool, true, false, List, [], ◌∷◌, ◌++◌, length, Option, Some, None, refl, ap, sym, ◌∙◌, arith, ◌⊎◌, inl, inr}
+use Rattle.std.specs.Prelude.{is_some, is_none, ◌==◌, nat_abs, not}
+use Rattle.std.specs.Option.{option_map, option_or}
+use Rattle.std.proofs.lemmas.Option.{same_Some, none-some}
 use Rattle.std.proofs.lemmas.Bool.Decides.{nat_tests}
 use Rattle.cf_model.specs.FlatFunctions.{FlatFunction}
 use Rattle.cf_reference.specs.Trees.{Tree, Statement, Empty, Level, Vars, Let, Value, First, Listed, Equal, Size, Stats}
-use Rattle.cf_reference.specs.Reasons.{Refusal, NoLevel, LevelAgain, NoName, Taken, TooManyVariables, LevelsDiffer, BadLevel, OutOfRange, Overflow, unless}
+use Rattle.cf_reference.specs.Reasons.{Refusal, NoLevel, LevelAgain, NoName, Taken, TooManyVariables, LevelsDiffer, BadLevel, OutOfRange, Overflow, where_holds}
 use Rattle.cf_reference.specs.Replies.{value_reply}
-use Rattle.cf_reference.specs.States.{State, is_below, is_among, bind, named, is_bound, nothing, function_of, at}
+use Rattle.cf_reference.specs.States.{State, Files, is_below, is_among, bind, named, at}
 use Rattle.cf_reference.specs.Expressions.{walk}
 use Rattle.cf_reference.specs.Failures.{over}
 use Rattle.cf_reference.specs.Gives.{GivesTree}
 use Rattle.cf_reference.specs.Answers.{spelled, first_answer, list_answer, equal_answer, size_answer, stats_answer}
-use Rattle.cf_reference.specs.Carrying.{Refuses, Goes, clashes, have_room, lists, refusal_within, refusal_at, refusal_of, next, reply_of, step}
-use Rattle.cf_reference.proofs.AnswerLaws.{step-refused, step-goes}
+use Rattle.cf_reference.specs.Carrying.{Outcome, Refuses, Goes, unless_refused, needs_level, with_function, asks, clashes, have_room, lists, function_from, set_level, declare, define, tell_value, tell_first, tell_list, tell_equal, tell_size, tell_stats, step}
+use Rattle.cf_reference.proofs.TestFacts.{or_none_first, or_none_second}
 use Rattle.cf_reference.proofs.GivesLaws.{gives-let}
 
--- an empty line does nothing
-pub step-Empty : (s : State) → step s Empty ≡ Goes s []
-step-Empty s = at s.level refl
-  where
-    at : (o : Option ℕ) → s.level ≡ o → step s Empty ≡ Goes s []
-    at None e = step-goes s Empty (ap (λ o. refusal_at o s Empty) e)
-    at (Some k) e = step-goes s Empty (ap (λ o. refusal_at o s Empty) e)
+lacking : Option ℕ → List (Option Refusal) → Outcome → Outcome
+lacking level later outcome = unless_refused (where_holds (is_none level) NoLevel ∷ later) outcome
 
--- where no level is set, only an empty line and `level` are carried out
-pub step-Level : (s : State) (n : ℤ) → s.level ≡ None → is_below n 8 ≡ true
-    → step s (Level n) ≡ Goes (record { level = Some (nat_abs n); variables = s.variables; functions = s.functions }) []
-step-Level s n none fits = step-goes s (Level n) (ap (λ o. refusal_at o s (Level n)) none ∙ ap (λ b. unless b BadLevel) fits)
+without : (s : State) (later : List (Option Refusal)) (outcome : Outcome) → s.level ≡ None
+    → unless_refused (needs_level s ∷ later) outcome ≡ Refuses NoLevel
+unfolding lacking
+without s later outcome none = ap (λ (o : Option ℕ). lacking o later outcome) none
 
-pub step-Level-bad : (s : State) (n : ℤ) → s.level ≡ None → is_below n 8 ≡ false → step s (Level n) ≡ Refuses BadLevel
-step-Level-bad s n none high =
-    step-refused s (Level n) BadLevel (ap (λ o. refusal_at o s (Level n)) none ∙ ap (λ b. unless b BadLevel) high)
+without_asked : (s : State) (name : List ℕ) (answer : FlatFunction → Outcome) → s.level ≡ None
+    → asks s name answer ≡ Refuses NoLevel
+without_asked s name answer none = without s [] (with_function (named s name) answer) none
 
--- a statement other than these two
+-- a statement other than an empty line and `level`
 abbrev pub WantsLevel : Statement → Type 0
 WantsLevel Empty = ⊥
 WantsLevel (Level n) = ⊥
 WantsLevel other = Unit {0}
 
-pub step-without : (s : State) (t : Statement) → s.level ≡ None → WantsLevel t → step s t ≡ Refuses NoLevel
-step-without s t none h = step-refused s t NoLevel (ap (λ o. refusal_at o s t) none ∙ wants t h)
-  where
-    wants : (u : Statement) → WantsLevel u → refusal_at None s u ≡ Some NoLevel
-    wants Empty h = absurd h
-    wants (Level n) h = absurd h
-    wants (Vars names) h = refl
-    wants (Let name e) h = refl
-    wants (Value name bits) h = refl
-    wants (First name n) h = refl
-    wants (Listed name n most) h = refl
-    wants (Equal name other) h = refl
-    wants (Size name) h = refl
-    wants Stats h = refl
+-- where no level is set, only these two are carried out
+pub step-without : (files : Files) (s : State) (t : Statement) → s.level ≡ None → WantsLevel t
+    → step files s t ≡ Refuses NoLevel
+unfolding declare define tell_value tell_first tell_list tell_equal tell_size tell_stats
+step-without files s Empty none h = absurd h
+step-without files s (Level n) none h = absurd h
+step-without files s (Vars names) none h = without s _ _ none
+step-without files s (Let name e) none h = without s _ _ none
+step-without files s (Value name bits) none h = without_asked s name _ none
+step-without files s (First name n) none h = without_asked s name _ none
+step-without files s (Listed name n most) none h = without_asked s name _ none
+step-without files s (Equal name other) none h = without_asked s name _ none
+step-without files s (Size name) none h = without_asked s name _ none
+step-without files s Stats none h = without s [] (Goes s (stats_answer s)) none
 
--- where a level is set
-pub within : (s : State) (k : ℕ) (t : Statement) → s.level ≡ Some k → refusal_of s t ≡ refusal_within s t
-within s k t e = ap (λ o. refusal_at o s t) e
+-- `level`
+level_set : Option ℕ → Bool → Outcome → Outcome
+level_set level below goes =
+    unless_refused (where_holds (is_some level) LevelAgain ∷ where_holds (not below) BadLevel ∷ []) goes
 
-pub refused-within : (s : State) (k : ℕ) (t : Statement) (r : Refusal) → s.level ≡ Some k → refusal_within s t ≡ Some r
-    → step s t ≡ Refuses r
-refused-within s k t r e h = step-refused s t r (within s k t e ∙ h)
+pub step-Level : (s : State) (n : ℤ) → s.level ≡ None → is_below n 8 ≡ true
+    → set_level s n ≡ Goes (record s { level = Some (nat_abs n) }) []
+unfolding level_set set_level
+step-Level s n none fits =
+    let goes = Goes (record s { level = Some (nat_abs n) }) [] in
+    ap (λ (o : Option ℕ). level_set o (is_below n 8) goes) none ∙ ap (λ b. level_set None b goes) fits
 
-pub goes-within : (s : State) (k : ℕ) (t : Statement) → s.level ≡ Some k → refusal_within s t ≡ None
-    → step s t ≡ Goes (next s t) (reply_of s t)
-goes-within s k t e h = step-goes s t (within s k t e ∙ h)
+pub step-Level-bad : (s : State) (n : ℤ) → s.level ≡ None → is_below n 8 ≡ false → set_level s n ≡ Refuses BadLevel
+unfolding level_set set_level
+step-Level-bad s n none high =
+    let goes = Goes (record s { level = Some (nat_abs n) }) [] in
+    ap (λ (o : Option ℕ). level_set o (is_below n 8) goes) none ∙ ap (λ b. level_set None b goes) high
 
-pub step-Level-again : (s : State) (k : ℕ) (n : ℤ) → s.level ≡ Some k → step s (Level n) ≡ Refuses LevelAgain
-step-Level-again s k n e = refused-within s k (Level n) LevelAgain e refl
+pub step-Level-again : (s : State) (k : ℕ) (n : ℤ) → s.level ≡ Some k → set_level s n ≡ Refuses LevelAgain
+unfolding level_set set_level
+step-Level-again s k n e =
+    ap (λ (o : Option ℕ). level_set o (is_below n 8) (Goes (record s { level = Some (nat_abs n) }) [])) e
 
 -- `var`
-refusal_of_vars : Bool → Bool → Option Refusal
-refusal_of_vars clash fits = option_or (unless (not clash) Taken) (unless fits TooManyVariables)
+declared : Option ℕ → Bool → Bool → Outcome → Outcome
+declared level clash room goes =
+    unless_refused
+    (where_holds (is_none level) NoLevel ∷ where_holds clash Taken ∷ where_holds (not room) TooManyVariables ∷ []) goes
 
 pub step-Vars : (s : State) (k : ℕ) (names : List (List ℕ)) → s.level ≡ Some k → clashes s names ≡ false
-    → have_room s names ≡ true
-    → step s (Vars names) ≡ Goes (record { level = s.level; variables = s.variables ++ names; functions = s.functions }) []
-unfolding refusal_of_vars
+    → have_room s names ≡ true → declare s names ≡ Goes (record s { variables = s.variables ++ names }) []
+unfolding declared declare
 step-Vars s k names e clash fits =
-    goes-within s k (Vars names) e (ap (λ b. refusal_of_vars b (have_room s names)) clash ∙ ap (refusal_of_vars false) fits)
+    let goes = Goes (record s { variables = s.variables ++ names }) [] in
+    ap (λ (o : Option ℕ). declared o (clashes s names) (have_room s names) goes) e
+    ∙ ap (λ b. declared (Some k) b (have_room s names) goes) clash
+    ∙ ap (λ b. declared (Some k) false b goes) fits
 
 pub step-Vars-taken : (s : State) (k : ℕ) (names : List (List ℕ)) → s.level ≡ Some k → clashes s names ≡ true
-    → step s (Vars names) ≡ Refuses Taken
-unfolding refusal_of_vars
+    → declare s names ≡ Refuses Taken
+unfolding declared declare
 step-Vars-taken s k names e clash =
-    refused-within s k (Vars names) Taken e (ap (λ b. refusal_of_vars b (have_room s names)) clash)
+    let goes = Goes (record s { variables = s.variables ++ names }) [] in
+    ap (λ (o : Option ℕ). declared o (clashes s names) (have_room s names) goes) e
+    ∙ ap (λ b. declared (Some k) b (have_room s names) goes) clash
 
 pub step-Vars-many : (s : State) (k : ℕ) (names : List (List ℕ)) → s.level ≡ Some k → clashes s names ≡ false
-    → have_room s names ≡ false → step s (Vars names) ≡ Refuses TooManyVariables
-unfolding refusal_of_vars
+    → have_room s names ≡ false → declare s names ≡ Refuses TooManyVariables
+unfolding declared declare
 step-Vars-many s k names e clash fits =
-    refused-within s k (Vars names) TooManyVariables e (ap (λ b. refusal_of_vars b (have_room s names)) clash ∙ ap (refusal_of_vars false) fits)
+    let goes = Goes (record s { variables = s.variables ++ names }) [] in
+    ap (λ (o : Option ℕ). declared o (clashes s names) (have_room s names) goes) e
+    ∙ ap (λ b. declared (Some k) b (have_room s names) goes) clash
+    ∙ ap (λ b. declared (Some k) false b goes) fits
 
 -- `let`
-refusal_of_let : Bool → Option Refusal → Option (List Bool) → Option Refusal
-refusal_of_let variable refused failed =
-    option_or (unless (not variable) Taken) (option_or refused (option_map Overflow failed))
+defined : Option ℕ → Bool → Option Refusal → Option (List Bool) → Outcome → Outcome
+defined level variable refused failed goes =
+    unless_refused
+    (where_holds (is_none level) NoLevel ∷ where_holds variable Taken ∷ refused ∷ option_map Overflow failed ∷ []) goes
+
+abbrev bound : State → List ℕ → Tree → Outcome
+bound s name e = Goes (record s { functions = bind s.functions name (function_from s e) }) []
+
+free_name : (s : State) (k : ℕ) (name : List ℕ) (e : Tree) → s.level ≡ Some k → is_among s.variables name ≡ false
+    → define s name e ≡ defined (Some k) false (walk s e) (over s e) (bound s name e)
+unfolding defined define
+free_name s k name e l free =
+    ap (λ (o : Option ℕ). defined o (is_among s.variables name) (walk s e) (over s e) (bound s name e)) l
+    ∙ ap (λ b. defined (Some k) b (walk s e) (over s e) (bound s name e)) free
+
+pub step-Let-goes : (s : State) (k : ℕ) (name : List ℕ) (e : Tree) → s.level ≡ Some k
+    → is_among s.variables name ≡ false → walk s e ≡ None → over s e ≡ None
+    → define s name e ≡ Goes (record s { functions = bind s.functions name (function_from s e) }) []
+unfolding defined
+step-Let-goes s k name e l free walked fits =
+    free_name s k name e l free
+    ∙ ap (λ o. defined (Some k) false o (over s e) (bound s name e)) walked
+    ∙ ap (λ o. defined (Some k) false None o (bound s name e)) fits
 
 pub step-Let : (s : State) (k : ℕ) (name : List ℕ) (e : Tree) (f : FlatFunction) → s.level ≡ Some k
     → is_among s.variables name ≡ false → walk s e ≡ None → over s e ≡ None → GivesTree s e f
-    → step s (Let name e) ≡ Goes (record { level = s.level; variables = s.variables; functions = bind s.functions name f }) []
-unfolding refusal_of_let
+    → define s name e ≡ Goes (record s { functions = bind s.functions name f }) []
 step-Let s k name e f l free walked fits g =
-    goes-within s k (Let name e) l
-    (ap (λ b. refusal_of_let b (walk s e) (over s e)) free ∙ ap (λ o. refusal_of_let false o (over s e)) walked ∙ ap (refusal_of_let false None) fits)
-    ∙ ap (λ h. Goes (record { level = s.level; variables = s.variables; functions = bind s.functions name h }) []) (sym (gives-let s e f g))
+    step-Let-goes s k name e l free walked fits
+    ∙ ap (λ h. Goes (record s { functions = bind s.functions name h }) []) (sym (gives-let s e f g))
 
 pub step-Let-taken : (s : State) (k : ℕ) (name : List ℕ) (e : Tree) → s.level ≡ Some k
-    → is_among s.variables name ≡ true → step s (Let name e) ≡ Refuses Taken
-unfolding refusal_of_let
+    → is_among s.variables name ≡ true → define s name e ≡ Refuses Taken
+unfolding defined define
 step-Let-taken s k name e l taken =
-    refused-within s k (Let name e) Taken l (ap (λ b. refusal_of_let b (walk s e) (over s e)) taken)
+    ap (λ (o : Option ℕ). defined o (is_among s.variables name) (walk s e) (over s e) (bound s name e)) l
+    ∙ ap (λ b. defined (Some k) b (walk s e) (over s e) (bound s name e)) taken
 
 pub step-Let-refused : (s : State) (k : ℕ) (name : List ℕ) (e : Tree) (r : Refusal) → s.level ≡ Some k
-    → is_among s.variables name ≡ false → walk s e ≡ Some r → step s (Let name e) ≡ Refuses r
-unfolding refusal_of_let
+    → is_among s.variables name ≡ false → walk s e ≡ Some r → define s name e ≡ Refuses r
+unfolding defined
 step-Let-refused s k name e r l free walked =
-    refused-within s k (Let name e) r l (ap (λ b. refusal_of_let b (walk s e) (over s e)) free ∙ ap (λ o. refusal_of_let false o (over s e)) walked)
+    free_name s k name e l free ∙ ap (λ o. defined (Some k) false o (over s e) (bound s name e)) walked
 
 pub step-Let-overflow : (s : State) (k : ℕ) (name : List ℕ) (e : Tree) (bits : List Bool) → s.level ≡ Some k
     → is_among s.variables name ≡ false → walk s e ≡ None → over s e ≡ Some bits
-    → step s (Let name e) ≡ Refuses (Overflow bits)
-unfolding refusal_of_let
+    → define s name e ≡ Refuses (Overflow bits)
+unfolding defined
 step-Let-overflow s k name e bits l free walked fails =
-    refused-within s k (Let name e) (Overflow bits) l
-    (ap (λ b. refusal_of_let b (walk s e) (over s e)) free ∙ ap (λ o. refusal_of_let false o (over s e)) walked ∙ ap (refusal_of_let false None) fails)
+    free_name s k name e l free
+    ∙ ap (λ o. defined (Some k) false o (over s e) (bound s name e)) walked
+    ∙ ap (λ o. defined (Some k) false None o (bound s name e)) fails
+
+-- what comes of the expression itself
+pub step-Let-fails : (s : State) (k : ℕ) (name : List ℕ) (e : Tree) (r : Refusal) → s.level ≡ Some k
+    → is_among s.variables name ≡ false → option_or (walk s e) (option_map Overflow (over s e)) ≡ Some r
+    → define s name e ≡ Refuses r
+step-Let-fails s k name e r l free h = by (walk s e) (over s e) refl refl h
+  where
+    by : (w : Option Refusal) (o : Option (List Bool)) → walk s e ≡ w → over s e ≡ o
+        → option_or w (option_map Overflow o) ≡ Some r → define s name e ≡ Refuses r
+    by (Some q) o ew eo h = step-Let-refused s k name e q l free ew ∙ ap Refuses (same_Some q r h)
+    by None (Some bits) ew eo h =
+        step-Let-overflow s k name e bits l free ew eo ∙ ap Refuses (same_Some (Overflow bits) r h)
+    by None None ew eo h = absurd (none-some r h)
+
+pub step-Let-whole : (s : State) (k : ℕ) (name : List ℕ) (e : Tree) → s.level ≡ Some k
+    → is_among s.variables name ≡ false → option_or (walk s e) (option_map Overflow (over s e)) ≡ None
+    → define s name e ≡ Goes (record s { functions = bind s.functions name (function_from s e) }) []
+step-Let-whole s k name e l free h =
+    step-Let-goes s k name e l free (or_none_first (walk s e) (option_map Overflow (over s e)) h)
+    (over_none (over s e) (or_none_second (walk s e) (option_map Overflow (over s e)) h))
+  where
+    over_none : (o : Option (List Bool)) → option_map Overflow o ≡ None → o ≡ None
+    over_none None e = refl
+    over_none (Some bits) e = absurd (none-some (Overflow bits) (sym e))
+
+-- questions about the function of a name
+asked : Option ℕ → Option FlatFunction → (FlatFunction → Outcome) → Outcome
+asked level found answer = unless_refused (where_holds (is_none level) NoLevel ∷ []) (with_function found answer)
+
+known : (s : State) (k : ℕ) (name : List ℕ) (f : FlatFunction) (answer : FlatFunction → Outcome) → s.level ≡ Some k
+    → named s name ≡ Some f → asks s name answer ≡ answer f
+unfolding asked
+known s k name f answer l e =
+    ap (λ (o : Option ℕ). asked o (named s name) answer) l ∙ ap (λ o. asked (Some k) o answer) e
+
+unknown : (s : State) (k : ℕ) (name : List ℕ) (answer : FlatFunction → Outcome) → s.level ≡ Some k
+    → named s name ≡ None → asks s name answer ≡ Refuses NoName
+unfolding asked
+unknown s k name answer l e =
+    ap (λ (o : Option ℕ). asked o (named s name) answer) l ∙ ap (λ o. asked (Some k) o answer) e
 
 -- a statement about one name
 abbrev pub Asks : Statement → List ℕ → Type 0
@@ -134,25 +207,19 @@ Asks (Listed n v most) name = n ≡ name
 Asks (Size n) name = n ≡ name
 Asks other name = ⊥
 
-pub step-NoName : (s : State) (k : ℕ) (t : Statement) (name : List ℕ) → s.level ≡ Some k → Asks t name
-    → named s name ≡ None → step s t ≡ Refuses NoName
-step-NoName s k t name l asks e = refused-within s k t NoName l (by t asks)
-  where
-    unbound : (n : List ℕ) → n ≡ name → is_bound s n ≡ false
-    unbound n same = ap (is_bound s) same ∙ ap (λ (o : Option FlatFunction). is_some o) e
-
-    by : (u : Statement) → Asks u name → refusal_within s u ≡ Some NoName
-    by (Value n bits) same =
-        ap (λ b. option_or (unless b NoName) (unless (length bits == 2 ^ (function_of s n).level) OutOfRange)) (unbound n same)
-    by (First n v) same = ap (λ b. unless b NoName) (unbound n same)
-    by (Listed n v most) same = ap (λ b. option_or (unless b NoName) (unless (lists most) OutOfRange)) (unbound n same)
-    by (Size n) same = ap (λ b. unless b NoName) (unbound n same)
-    by Empty same = absurd same
-    by (Level n) same = absurd same
-    by (Vars names) same = absurd same
-    by (Let n t) same = absurd same
-    by (Equal n other) same = absurd same
-    by Stats same = absurd same
+pub step-NoName : (files : Files) (s : State) (k : ℕ) (t : Statement) (name : List ℕ) → s.level ≡ Some k → Asks t name
+    → named s name ≡ None → step files s t ≡ Refuses NoName
+unfolding tell_value tell_first tell_list tell_size
+step-NoName files s k (Value n bits) name l same e = unknown s k n _ l (ap (named s) same ∙ e)
+step-NoName files s k (First n v) name l same e = unknown s k n _ l (ap (named s) same ∙ e)
+step-NoName files s k (Listed n v most) name l same e = unknown s k n _ l (ap (named s) same ∙ e)
+step-NoName files s k (Size n) name l same e = unknown s k n _ l (ap (named s) same ∙ e)
+step-NoName files s k Empty name l same e = absurd same
+step-NoName files s k (Level n) name l same e = absurd same
+step-NoName files s k (Vars names) name l same e = absurd same
+step-NoName files s k (Let n t) name l same e = absurd same
+step-NoName files s k (Equal n other) name l same e = absurd same
+step-NoName files s k Stats name l same e = absurd same
 
 equals : (m n : ℕ) → m ≡ n → (m == n) ≡ true
 equals m n e = grind (arith, nat_tests)
@@ -160,109 +227,87 @@ equals m n e = grind (arith, nat_tests)
 differ : (m n : ℕ) → m ≢ n → (m == n) ≡ false
 differ m n e = grind (arith, nat_tests)
 
--- what a name stands for, and whether it stands for something
-is_function : (s : State) (name : List ℕ) (f : FlatFunction) → named s name ≡ Some f → function_of s name ≡ f
-is_function s name f e = ap (λ (o : Option FlatFunction). unwrap_or o nothing) e
-
-bound : (s : State) (name : List ℕ) (f : FlatFunction) → named s name ≡ Some f → is_bound s name ≡ true
-bound s name f e = ap (λ (o : Option FlatFunction). is_some o) e
+-- an answer that has one condition
+only_where : Bool → Refusal → Outcome → Outcome
+only_where holds r outcome = unless_refused (where_holds (not holds) r ∷ []) outcome
 
 -- `value`
-refusal_of_value : Option FlatFunction → ℕ → Option Refusal
-refusal_of_value o digits =
-    option_or (unless (is_some o) NoName) (unless (digits == 2 ^ (unwrap_or o nothing).level) OutOfRange)
-
 pub step-Value : (s : State) (k : ℕ) (name bits : List ℕ) (f : FlatFunction) → s.level ≡ Some k → named s name ≡ Some f
-    → length bits ≡ 2 ^ f.level
-    → step s (Value name bits) ≡ Goes s (value_reply (at f (spelled bits)))
-unfolding refusal_of_value
+    → length bits ≡ 2 ^ f.level → tell_value s name bits ≡ Goes s (value_reply (at f (spelled bits)))
+unfolding only_where tell_value
 step-Value s k name bits f l e full =
-    goes-within s k (Value name bits) l (ap (λ o. refusal_of_value o (length bits)) e ∙ ap (λ b. unless b OutOfRange) (equals (length bits) (2 ^ f.level) full))
-    ∙ ap (λ g. Goes s (value_reply (at g (spelled bits)))) (is_function s name f e)
+    known s k name f _ l e
+    ∙ ap (λ b. only_where b OutOfRange (Goes s (value_reply (at f (spelled bits))))) (equals (length bits) (2 ^ f.level) full)
 
 pub step-Value-bits : (s : State) (k : ℕ) (name bits : List ℕ) (f : FlatFunction) → s.level ≡ Some k
-    → named s name ≡ Some f → length bits ≢ 2 ^ f.level
-    → step s (Value name bits) ≡ Refuses OutOfRange
-unfolding refusal_of_value
+    → named s name ≡ Some f → length bits ≢ 2 ^ f.level → tell_value s name bits ≡ Refuses OutOfRange
+unfolding only_where tell_value
 step-Value-bits s k name bits f l e other =
-    refused-within s k (Value name bits) OutOfRange l
-    (ap (λ o. refusal_of_value o (length bits)) e ∙ ap (λ b. unless b OutOfRange) (differ (length bits) (2 ^ f.level) other))
+    known s k name f _ l e
+    ∙ ap (λ b. only_where b OutOfRange (Goes s (value_reply (at f (spelled bits))))) (differ (length bits) (2 ^ f.level) other)
 
 -- `first` and `size`
 pub step-First : (s : State) (k : ℕ) (name : List ℕ) (v : ℤ) (f : FlatFunction) → s.level ≡ Some k
-    → named s name ≡ Some f → step s (First name v) ≡ Goes s (first_answer f v)
-step-First s k name v f l e =
-    goes-within s k (First name v) l (ap (λ b. unless b NoName) (bound s name f e))
-    ∙ ap (λ g. Goes s (first_answer g v)) (is_function s name f e)
+    → named s name ≡ Some f → tell_first s name v ≡ Goes s (first_answer f v)
+unfolding tell_first
+step-First s k name v f l e = known s k name f _ l e
 
 pub step-Size : (s : State) (k : ℕ) (name : List ℕ) (f : FlatFunction) → s.level ≡ Some k → named s name ≡ Some f
-    → step s (Size name) ≡ Goes s (size_answer f)
-step-Size s k name f l e =
-    goes-within s k (Size name) l (ap (λ b. unless b NoName) (bound s name f e))
-    ∙ ap (λ g. Goes s (size_answer g)) (is_function s name f e)
+    → tell_size s name ≡ Goes s (size_answer f)
+unfolding tell_size
+step-Size s k name f l e = known s k name f _ l e
 
 -- `list`
 pub step-Listed : (s : State) (k : ℕ) (name : List ℕ) (v most : ℤ) (f : FlatFunction) → s.level ≡ Some k
-    → named s name ≡ Some f → lists most ≡ true
-    → step s (Listed name v most) ≡ Goes s (list_answer f v (nat_abs most))
+    → named s name ≡ Some f → lists most ≡ true → tell_list s name v most ≡ Goes s (list_answer f v (nat_abs most))
+unfolding only_where tell_list
 step-Listed s k name v most f l e fits =
-    goes-within s k (Listed name v most) l (ap (λ b. option_or (unless b NoName) (unless (lists most) OutOfRange)) (bound s name f e) ∙ ap (λ b. unless b OutOfRange) fits)
-    ∙ ap (λ g. Goes s (list_answer g v (nat_abs most))) (is_function s name f e)
+    known s k name f _ l e ∙ ap (λ b. only_where b OutOfRange (Goes s (list_answer f v (nat_abs most)))) fits
 
 pub step-Listed-most : (s : State) (k : ℕ) (name : List ℕ) (v most : ℤ) (f : FlatFunction) → s.level ≡ Some k
-    → named s name ≡ Some f → lists most ≡ false
-    → step s (Listed name v most) ≡ Refuses OutOfRange
+    → named s name ≡ Some f → lists most ≡ false → tell_list s name v most ≡ Refuses OutOfRange
+unfolding only_where tell_list
 step-Listed-most s k name v most f l e past =
-    refused-within s k (Listed name v most) OutOfRange l
-    (ap (λ b. option_or (unless b NoName) (unless (lists most) OutOfRange)) (bound s name f e) ∙ ap (λ b. unless b OutOfRange) past)
+    known s k name f _ l e ∙ ap (λ b. only_where b OutOfRange (Goes s (list_answer f v (nat_abs most)))) past
 
 -- `equal`
-refusal_of_equal : Bool → ℕ → ℕ → Option Refusal
-refusal_of_equal known m n = option_or (unless known NoName) (unless (m == n) LevelsDiffer)
+abbrev compared : State → FlatFunction → FlatFunction → Outcome
+compared s f g = unless_refused (where_holds (not (f.level == g.level)) LevelsDiffer ∷ []) (Goes s (equal_answer f g))
 
-both_bound : (s : State) (name other : List ℕ) (f g : FlatFunction) → named s name ≡ Some f → named s other ≡ Some g
-    → refusal_within s (Equal name other) ≡ refusal_of_equal true f.level g.level
-unfolding refusal_of_equal
-both_bound s name other f g e d =
-    ap (λ b. refusal_of_equal (b && is_bound s other) (function_of s name).level (function_of s other).level) (bound s name f e)
-    ∙ ap (λ b. refusal_of_equal b (function_of s name).level (function_of s other).level) (bound s other g d)
-    ∙ ap (λ (h : FlatFunction). refusal_of_equal true h.level (function_of s other).level) (is_function s name f e)
-    ∙ ap (λ (h : FlatFunction). refusal_of_equal true f.level h.level) (is_function s other g d)
+both_known : (s : State) (k : ℕ) (name other : List ℕ) (f g : FlatFunction) → s.level ≡ Some k
+    → named s name ≡ Some f → named s other ≡ Some g → tell_equal s name other ≡ compared s f g
+unfolding tell_equal
+both_known s k name other f g l e d =
+    known s k name f _ l e ∙ ap (λ o. with_function o (λ h. compared s f h)) d
 
 pub step-Equal : (s : State) (k : ℕ) (name other : List ℕ) (f g : FlatFunction) → s.level ≡ Some k
     → named s name ≡ Some f → named s other ≡ Some g → f.level ≡ g.level
-    → step s (Equal name other) ≡ Goes s (equal_answer f g)
-unfolding refusal_of_equal
+    → tell_equal s name other ≡ Goes s (equal_answer f g)
+unfolding only_where
 step-Equal s k name other f g l e d same =
-    goes-within s k (Equal name other) l (both_bound s name other f g e d ∙ ap (λ b. unless b LevelsDiffer) (equals f.level g.level same))
-    ∙ ap (λ h. Goes s (equal_answer h (function_of s other))) (is_function s name f e)
-    ∙ ap (λ h. Goes s (equal_answer f h)) (is_function s other g d)
+    both_known s k name other f g l e d ∙ ap (λ b. only_where b LevelsDiffer (Goes s (equal_answer f g))) (equals f.level g.level same)
 
 pub step-Equal-levels : (s : State) (k : ℕ) (name other : List ℕ) (f g : FlatFunction) → s.level ≡ Some k
     → named s name ≡ Some f → named s other ≡ Some g → f.level ≢ g.level
-    → step s (Equal name other) ≡ Refuses LevelsDiffer
-unfolding refusal_of_equal
+    → tell_equal s name other ≡ Refuses LevelsDiffer
+unfolding only_where
 step-Equal-levels s k name other f g l e d apart =
-    refused-within s k (Equal name other) LevelsDiffer l (both_bound s name other f g e d ∙ ap (λ b. unless b LevelsDiffer) (differ f.level g.level apart))
+    both_known s k name other f g l e d ∙ ap (λ b. only_where b LevelsDiffer (Goes s (equal_answer f g))) (differ f.level g.level apart)
 
-no_one : (a b : Bool) → a ≡ false → a && b ≡ false
-no_one false b e = refl
-no_one true b e = cc
-
-nor_other : (a b : Bool) → b ≡ false → a && b ≡ false
-nor_other false b e = refl
-nor_other true b e = e
+second_unknown : (s : State) (k : ℕ) (name other : List ℕ) (o : Option FlatFunction) → s.level ≡ Some k
+    → named s name ≡ o → named s other ≡ None → tell_equal s name other ≡ Refuses NoName
+unfolding tell_equal
+second_unknown s k name other None l e d = unknown s k name _ l e
+second_unknown s k name other (Some f) l e d =
+    known s k name f _ l e ∙ ap (λ o. with_function o (λ h. compared s f h)) d
 
 pub step-Equal-NoName : (s : State) (k : ℕ) (name other : List ℕ) → s.level ≡ Some k
-    → (named s name ≡ None) ⊎ (named s other ≡ None) → step s (Equal name other) ≡ Refuses NoName
-unfolding refusal_of_equal
-step-Equal-NoName s k name other l h =
-    refused-within s k (Equal name other) NoName l (ap (λ b. refusal_of_equal b (function_of s name).level (function_of s other).level) (unknown h))
-  where
-    unknown : (named s name ≡ None) ⊎ (named s other ≡ None) → is_bound s name && is_bound s other ≡ false
-    unknown (inl e) = no_one (is_bound s name) (is_bound s other) (ap (λ (o : Option FlatFunction). is_some o) e)
-    unknown (inr e) = nor_other (is_bound s name) (is_bound s other) (ap (λ (o : Option FlatFunction). is_some o) e)
+    → (named s name ≡ None) ⊎ (named s other ≡ None) → tell_equal s name other ≡ Refuses NoName
+unfolding tell_equal
+step-Equal-NoName s k name other l (inl e) = unknown s k name _ l e
+step-Equal-NoName s k name other l (inr e) = second_unknown s k name other (named s name) l refl e
 
 -- `stats`
-pub step-Stats : (s : State) (k : ℕ) → s.level ≡ Some k → step s Stats ≡ Goes s (stats_answer s)
-step-Stats s k l = goes-within s k Stats l refl
+pub step-Stats : (s : State) (k : ℕ) → s.level ≡ Some k → tell_stats s ≡ Goes s (stats_answer s)
+unfolding lacking tell_stats
+step-Stats s k l = ap (λ (o : Option ℕ). lacking o [] (Goes s (stats_answer s))) l

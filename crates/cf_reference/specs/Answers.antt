@@ -7,12 +7,13 @@ use Rattle.cf_model.specs.Patterns.{pattern_of, sizes}
 use Rattle.cf_model.specs.Renumbering.{distinct}
 use Rattle.cf_reference.specs.Replies.{bits_reply, none_reply, listed_reply, equal_reply, different_reply, size_reply, stats_reply}
 use Rattle.cf_reference.specs.States.{State, level_in, at}
+use Rattle.cf_reference.specs.Bytes as byte
 
 -- What is answered of functions.
 
 -- the bits that a text of digits 0 and 1 spells
 abbrev pub spelled : List ℕ → List Bool
-spelled text = map (λ b. b == 49) text
+spelled text = map (λ b. b == byte.digit_1) text
 
 abbrev pub found_reply : Option (List Bool) → List ℕ
 found_reply None = none_reply

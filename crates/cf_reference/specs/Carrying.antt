@@ -1,11 +1,11 @@
-use Rattle.std.specs.Prelude.{ℕ, ℤ, pos, ◌+◌, ◌^◌, ◌==◌, ◌&&◌, ◌||◌, nat_le, int_le, nat_abs, not, Bool, List, [], ◌++◌, length, Option, Some, None}
+use Rattle.std.specs.Prelude.{ℕ, ℤ, pos, ◌+◌, ◌^◌, ◌==◌, ◌&&◌, ◌||◌, nat_le, int_le, nat_abs, not, is_none, is_some, Bool, List, [], ◌∷◌, ◌++◌, length, Option, Some, None}
 use Rattle.std.specs.List.{list_any}
-use Rattle.std.specs.Option.{option_or, option_map}
+use Rattle.std.specs.Option.{option_map}
 use Rattle.cf_model.specs.FlatFunctions.{FlatFunction}
 use Rattle.cf_reference.specs.Trees.{Tree, Statement, Empty, Level, Vars, Let, Value, First, Listed, Equal, Size, Stats}
-use Rattle.cf_reference.specs.Reasons.{Refusal, NoLevel, LevelAgain, NoName, Taken, TooManyVariables, LevelsDiffer, BadLevel, OutOfRange, Overflow, unless}
+use Rattle.cf_reference.specs.Reasons.{Refusal, NoLevel, LevelAgain, NoName, Taken, TooManyVariables, LevelsDiffer, BadLevel, OutOfRange, Overflow, where_holds}
 use Rattle.cf_reference.specs.Replies.{value_reply}
-use Rattle.cf_reference.specs.States.{State, level_in, is_below, is_among, bind, is_bound, repeats, function_of, at}
+use Rattle.cf_reference.specs.States.{State, Files, level_in, is_below, is_among, bind, named, is_bound, repeats, at}
 use Rattle.cf_reference.specs.Calls.{flat}
 use Rattle.cf_reference.specs.Expressions.{part, walk}
 use Rattle.cf_reference.specs.Failures.{over}
@@ -15,6 +15,21 @@ use Rattle.cf_reference.specs.Answers.{spelled, first_answer, list_answer, equal
 pub data Outcome : Type 0 where
   Refuses : Refusal → Outcome
   Goes : State → List ℕ → Outcome
+
+-- An outcome, or the first refusal of those before it, if there is one.
+abbrev pub unless_refused : List (Option Refusal) → Outcome → Outcome
+unless_refused [] outcome = outcome
+unless_refused (None ∷ later) outcome = unless_refused later outcome
+unless_refused (Some r ∷ later) outcome = Refuses r
+
+-- the refusal of a statement that needs a level
+abbrev pub needs_level : State → Option Refusal
+needs_level s = where_holds (is_none s.level) NoLevel
+
+-- what is done with the function of a name, which is refused where the name stands for none
+abbrev pub with_function : Option FlatFunction → (FlatFunction → Outcome) → Outcome
+with_function None outcome = Refuses NoName
+with_function (Some f) outcome = outcome f
 
 -- whether one of the names is bound already, or stands twice
 abbrev pub clashes : State → List (List ℕ) → Bool
@@ -28,71 +43,70 @@ have_room s names = nat_le (length s.variables + length names) (2 ^ level_in s)
 abbrev pub lists : ℤ → Bool
 lists most = int_le (pos 1) most && int_le most (pos 1000)
 
--- The refusals of a statement where a level is set. Names, levels and ranges are walked in reading order, and the
--- first refusal counts; the overflow of an expression comes last.
-abbrev pub refusal_within : State → Statement → Option Refusal
-refusal_within s Empty = None
-refusal_within s (Level n) = Some LevelAgain
-refusal_within s (Vars names) =
-    option_or (unless (not (clashes s names)) Taken) (unless (have_room s names) TooManyVariables)
-refusal_within s (Let name e) =
-    option_or
-    (unless (not (is_among s.variables name)) Taken)
-    (option_or (walk s e) (option_map Overflow (over s e)))
-refusal_within s (Value name bits) =
-    option_or
-    (unless (is_bound s name) NoName)
-    (unless (length bits == 2 ^ (function_of s name).level) OutOfRange)
-refusal_within s (First name n) = unless (is_bound s name) NoName
-refusal_within s (Listed name n most) =
-    option_or (unless (is_bound s name) NoName) (unless (lists most) OutOfRange)
-refusal_within s (Equal name other) =
-    option_or
-    (unless (is_bound s name && is_bound s other) NoName)
-    (unless ((function_of s name).level == (function_of s other).level) LevelsDiffer)
-refusal_within s (Size name) = unless (is_bound s name) NoName
-refusal_within s Stats = None
-
--- and where none is set yet
-abbrev pub refusal_without : Statement → Option Refusal
-refusal_without Empty = None
-refusal_without (Level n) = unless (is_below n 8) BadLevel
-refusal_without other = Some NoLevel
-
-abbrev pub refusal_at : Option ℕ → State → Statement → Option Refusal
-refusal_at None s t = refusal_without t
-refusal_at (Some k) s t = refusal_within s t
-
--- why a statement is refused, if it is
-abbrev pub refusal_of : State → Statement → Option Refusal
-refusal_of s t = refusal_at s.level s t
-
 -- the flat function of an expression that has a value everywhere
 abbrev pub function_from : State → Tree → FlatFunction
 function_from s e = flat (part s e)
 
--- the state that a statement leads to
-abbrev pub next : State → Statement → State
-next s (Level n) = record { level = Some (nat_abs n); variables = s.variables; functions = s.functions }
-next s (Vars names) = record { level = s.level; variables = s.variables ++ names; functions = s.functions }
-next s (Let name e) =
-    record { level = s.level; variables = s.variables; functions = bind s.functions name (function_from s e) }
-next s other = s
+-- What each statement does: its refusals in their order, of which the first counts, and then the state that it leads to and
+-- what it replies.
 
--- what a statement replies
-abbrev pub reply_of : State → Statement → List ℕ
-reply_of s (Value name bits) = value_reply (at (function_of s name) (spelled bits))
-reply_of s (First name n) = first_answer (function_of s name) n
-reply_of s (Listed name n most) = list_answer (function_of s name) n (nat_abs most)
-reply_of s (Equal name other) = equal_answer (function_of s name) (function_of s other)
-reply_of s (Size name) = size_answer (function_of s name)
-reply_of s Stats = stats_answer s
-reply_of s other = []
+unfoldable pub set_level : State → ℤ → Outcome
+set_level s n =
+    unless_refused
+    (where_holds (is_some s.level) LevelAgain ∷ where_holds (not (is_below n 8)) BadLevel ∷ [])
+    (Goes (record s { level = Some (nat_abs n) }) [])
 
-abbrev pub outcome : Option Refusal → State → Statement → Outcome
-outcome (Some r) s t = Refuses r
-outcome None s t = Goes (next s t) (reply_of s t)
+unfoldable pub declare : State → List (List ℕ) → Outcome
+declare s names =
+    unless_refused
+    (needs_level s ∷ where_holds (clashes s names) Taken ∷ where_holds (not (have_room s names)) TooManyVariables ∷ [])
+    (Goes (record s { variables = s.variables ++ names }) [])
 
--- what a statement does in a state
-unfoldable pub step : State → Statement → Outcome
-step s t = outcome (refusal_of s t) s t
+-- Names, levels and ranges of the expression are walked in reading order; its overflow comes last.
+unfoldable pub define : State → List ℕ → Tree → Outcome
+define s name e =
+    unless_refused
+    (needs_level s ∷ where_holds (is_among s.variables name) Taken ∷ walk s e ∷ option_map Overflow (over s e) ∷ [])
+    (Goes (record s { functions = bind s.functions name (function_from s e) }) [])
+
+-- a question about the function of a name
+abbrev pub asks : State → List ℕ → (FlatFunction → Outcome) → Outcome
+asks s name answer = unless_refused (needs_level s ∷ []) (with_function (named s name) answer)
+
+unfoldable pub tell_value : State → List ℕ → List ℕ → Outcome
+tell_value s name bits =
+    asks s name (λ f. unless_refused
+    (where_holds (not (length bits == 2 ^ f.level)) OutOfRange ∷ [])
+    (Goes s (value_reply (at f (spelled bits)))))
+
+unfoldable pub tell_first : State → List ℕ → ℤ → Outcome
+tell_first s name n = asks s name (λ f. Goes s (first_answer f n))
+
+unfoldable pub tell_list : State → List ℕ → ℤ → ℤ → Outcome
+tell_list s name n most =
+    asks s name (λ f. unless_refused (where_holds (not (lists most)) OutOfRange ∷ []) (Goes s (list_answer f n (nat_abs most))))
+
+unfoldable pub tell_equal : State → List ℕ → List ℕ → Outcome
+tell_equal s name other =
+    asks s name (λ f. with_function (named s other) (λ g. unless_refused
+    (where_holds (not (f.level == g.level)) LevelsDiffer ∷ [])
+    (Goes s (equal_answer f g))))
+
+unfoldable pub tell_size : State → List ℕ → Outcome
+tell_size s name = asks s name (λ f. Goes s (size_answer f))
+
+unfoldable pub tell_stats : State → Outcome
+tell_stats s = unless_refused (needs_level s ∷ []) (Goes s (stats_answer s))
+
+-- What a statement does in a state. The files are there for a statement that reads one; no statement does yet.
+abbrev pub step : Files → State → Statement → Outcome
+step files s Empty = Goes s []
+step files s (Level n) = set_level s n
+step files s (Vars names) = declare s names
+step files s (Let name e) = define s name e
+step files s (Value name bits) = tell_value s name bits
+step files s (First name n) = tell_first s name n
+step files s (Listed name n most) = tell_list s name n most
+step files s (Equal name other) = tell_equal s name other
+step files s (Size name) = tell_size s name
+step files s Stats = tell_stats s

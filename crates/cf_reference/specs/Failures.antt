@@ -20,34 +20,38 @@ abbrev pub first_failure : List Part → Option (List Bool)
 first_failure [] = None
 first_failure (part ∷ later) = option_or (failure part) (first_failure later)
 
--- the nested call of the arguments so far, where a head nests and there are two or more
-abbrev pub nested : Head → List Meant → List Part
-nested head done = if is_nested head && nat_le 2 (length done) then call head done ∷ [] else []
+-- a fold's step: the nested call of the arguments so far, where the head nests and there are two or more
+abbrev pub fold_step : Head → List Meant → List Part
+fold_step head done = if is_nested head && nat_le 2 (length done) then call head done ∷ [] else []
 
--- The subexpressions of an expression in order: the arguments from left to right, and then the call. A nested call comes
--- as soon as its arguments are there.
+-- an expression itself, which comes behind those in it
+abbrev pub itself : State → Tree → List Part
+itself s e = part s e ∷ []
+
+-- The subexpressions of an expression in order: those of the arguments from left to right, and then the expression itself.
+-- A fold's step comes as soon as its arguments are there.
 unfoldable mutual
-  pub parts : State → Tree → List Part
-  parts s (Num n) = part s (Num n) ∷ []
-  parts s (At i) = part s (At i) ∷ []
-  parts s (Named name) = part s (Named name) ∷ []
-  parts s (Call head es) = argument_parts s head [] es ++ part s (Call head es) ∷ []
+  pub subexpressions : State → Tree → List Part
+  subexpressions s (Num n) = itself s (Num n)
+  subexpressions s (At i) = itself s (At i)
+  subexpressions s (Named name) = itself s (Named name)
+  subexpressions s (Call head es) = argument_subexpressions s head [] es ++ itself s (Call head es)
 
   -- of each argument of a call, behind those that are done
-  pub argument_parts : State → Head → List Meant → Arguments → List Part
-  argument_parts s head done none = []
-  argument_parts s head done (more e es) =
-      nested head done ++ (parts s e ++ argument_parts s head (done ++ Function (flat (part s e)) ∷ []) es)
-  argument_parts s head done (atom a es) =
-      nested head done ++ argument_parts s head (done ++ meant_atom s a ∷ []) es
+  pub argument_subexpressions : State → Head → List Meant → Arguments → List Part
+  argument_subexpressions s head done none = []
+  argument_subexpressions s head done (more e es) =
+      fold_step head done ++ (subexpressions s e ++ argument_subexpressions s head (done ++ Function (flat (part s e)) ∷ []) es)
+  argument_subexpressions s head done (atom a es) =
+      fold_step head done ++ argument_subexpressions s head (done ++ meant_atom s a ∷ []) es
 
 -- The least failing assignment of the first subexpression that fails, which is of that one's level.
 abbrev pub over : State → Tree → Option (List Bool)
-over s e = first_failure (parts s e)
+over s e = first_failure (subexpressions s e)
 
 -- the same of the arguments of a call, behind those that are done
 abbrev pub over_arguments : State → Head → List Meant → Arguments → Option (List Bool)
-over_arguments s head done es = first_failure (argument_parts s head done es)
+over_arguments s head done es = first_failure (argument_subexpressions s head done es)
 
 -- A subexpression that fails has no value at the assignment that its failure names, and has one at each lower one. Where
 -- it doesn't fail, it has a value everywhere.
@@ -74,4 +78,4 @@ pub record FailsFirst (all : List Part) (bits : List Bool) : Type 0 where
 
 -- An overflow names the failure of the first subexpression that fails.
 abbrev pub OverflowIsFirst : Type 0
-OverflowIsFirst = (s : State) (e : Tree) (bits : List Bool) → over s e ≡ Some bits → FailsFirst (parts s e) bits
+OverflowIsFirst = (s : State) (e : Tree) (bits : List Bool) → over s e ≡ Some bits → FailsFirst (subexpressions s e) bits

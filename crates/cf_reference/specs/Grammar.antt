@@ -6,7 +6,7 @@ use Rattle.cf_reference.specs.declared.grammar.Keyword.{Keyword}
 use Rattle.cf_reference.specs.declared.grammar.Keyword.TheVariants as keyword
 use Rattle.cf_reference.specs.declared.grammar.Head.{Head}
 use Rattle.cf_reference.specs.Heads.{Kind, AnExpression, AVariable, ANatural, ANumber, ABit, head_of, takes, kind_at}
-use Rattle.cf_reference.specs.Words.{words_of_line, open_sign, close_sign, comma, equals, natural, number, place, is_name, is_bits}
+use Rattle.cf_reference.specs.Words.{before_comment, behind_word, words_of_line, open_sign, close_sign, comma, equals, natural, number, place, is_name, is_bits}
 use Rattle.cf_reference.specs.Trees.{Atom, Variable, Position, Number, Tree, Num, At, Named, Call, Arguments, none, more, atom, count, Statement, Empty, Level, Vars, Let, Value, First, Listed, Equal, Size, Stats}
 
 -- The grammar of a line, over its words.
@@ -109,35 +109,37 @@ abbrev mutual
   SpellsArguments head i (atom a es) all rest =
       (mid : List (List ℕ)) × SpellsAtom i (kind_at head i) a all mid × SpellsArguments head (suc i) es mid rest
 
--- The words behind the first one spell the statement, by cases on what the first one says.
-abbrev pub SpellsBehind : Keyword → Statement → List (List ℕ) → Type 0
-SpellsBehind keyword.Level t all = (k : List ℕ) × (n : ℤ) × (all ≡ k ∷ []) × (natural k ≡ Some n) × (t ≡ Level n)
-SpellsBehind keyword.Var t all = IsTrue (nat_le 1 (length all)) × IsTrue (list_all is_name all) × (t ≡ Vars all)
-SpellsBehind keyword.Let t all =
+-- The bytes behind the first word, and their words, spell the statement, by cases on what the first word says.
+abbrev pub SpellsBehind : Keyword → Statement → List ℕ → List (List ℕ) → Type 0
+SpellsBehind keyword.Level t bytes all = (k : List ℕ) × (n : ℤ) × (all ≡ k ∷ []) × (natural k ≡ Some n) × (t ≡ Level n)
+SpellsBehind keyword.Var t bytes all = IsTrue (nat_le 1 (length all)) × IsTrue (list_all is_name all) × (t ≡ Vars all)
+SpellsBehind keyword.Let t bytes all =
     (name : List ℕ) × (e : Tree) × (rest : List (List ℕ)) × (all ≡ name ∷ equals ∷ rest)
     × IsTrue (is_name name) × SpellsTree e rest [] × (t ≡ Let name e)
-SpellsBehind keyword.Value t all =
+SpellsBehind keyword.Value t bytes all =
     (name : List ℕ) × (bits : List ℕ) × (all ≡ name ∷ bits ∷ [])
     × IsTrue (is_name name) × IsTrue (is_bits bits) × (t ≡ Value name bits)
-SpellsBehind keyword.First t all =
+SpellsBehind keyword.First t bytes all =
     (name : List ℕ) × (v : List ℕ) × (n : ℤ) × (all ≡ name ∷ v ∷ [])
     × IsTrue (is_name name) × (number v ≡ Some n) × (t ≡ First name n)
-SpellsBehind keyword.List t all =
+SpellsBehind keyword.List t bytes all =
     (name : List ℕ) × (v : List ℕ) × (m : List ℕ) × (n : ℤ) × (most : ℤ) × (all ≡ name ∷ v ∷ m ∷ [])
     × IsTrue (is_name name) × (number v ≡ Some n) × (natural m ≡ Some most) × (t ≡ Listed name n most)
-SpellsBehind keyword.Equal t all =
+SpellsBehind keyword.Equal t bytes all =
     (name : List ℕ) × (other : List ℕ) × (all ≡ name ∷ other ∷ [])
     × IsTrue (is_name name) × IsTrue (is_name other) × (t ≡ Equal name other)
-SpellsBehind keyword.Size t all = (name : List ℕ) × (all ≡ name ∷ []) × IsTrue (is_name name) × (t ≡ Size name)
-SpellsBehind keyword.Stats t all = (all ≡ []) × (t ≡ Stats)
+SpellsBehind keyword.Size t bytes all = (name : List ℕ) × (all ≡ name ∷ []) × IsTrue (is_name name) × (t ≡ Size name)
+SpellsBehind keyword.Stats t bytes all = (all ≡ []) × (t ≡ Stats)
 
-abbrev pub SpellsWords : Statement → List (List ℕ) → Type 0
-SpellsWords t [] = t ≡ Empty
-SpellsWords t (word ∷ all) = (key : Keyword) × (keyword_of word ≡ Some key) × SpellsBehind key t all
+-- a text, with its words, spells a statement
+abbrev pub SpellsWords : Statement → List ℕ → List (List ℕ) → Type 0
+SpellsWords t text [] = t ≡ Empty
+SpellsWords t text (word ∷ all) =
+    (key : Keyword) × (keyword_of word ≡ Some key) × SpellsBehind key t (behind_word text) all
 
 -- a line spells a statement
 pub record Spells (line : List ℕ) (t : Statement) : Type 0 where
-  pub words : SpellsWords t (words_of_line line)
+  pub words : SpellsWords t (before_comment line) (words_of_line line)
 
 -- A line spells at most one statement.
 abbrev pub LinesSpellOneStatement : Type 0

@@ -2,6 +2,7 @@ use Rattle.std.specs.Prelude.{ℕ, ◌≡◌, ◌+◌, ◌≤◌, ◌==◌, List
 use Rattle.cf_reference.specs.Words.{before_comment}
 use Rattle.cf_reference.specs.Trees.{Statement, statement_fits, Formed}
 use Rattle.cf_reference.specs.Grammar.{Spells}
+use Rattle.cf_reference.specs.Bytes as byte
 
 -- what a line comes to: a refusal, or a statement
 pub data Parsed : Type 0 where
@@ -15,7 +16,9 @@ pub data Parsed : Type 0 where
 
 -- some prefix has at least 65 more `(` than `)`
 abbrev pub IsDeep : List ℕ → Type 0
-IsDeep text = (n : ℕ) × (count_by (λ b. b == 41) (take n text) + 65 ≤ count_by (λ b. b == 40) (take n text))
+IsDeep text =
+    (n : ℕ)
+    × (count_by (λ b. b == byte.close_sign) (take n text) + 65 ≤ count_by (λ b. b == byte.open_sign) (take n text))
 
 -- The refusals of a line in their order: its parentheses, its form, its numbers. What stands behind `#` counts for
 -- none of them.

@@ -1,4 +1,5 @@
 use Rattle.std.specs.Prelude.{ℕ, ◌≢◌, ◌+◌, ◌-◌, ◌==◌, ◌&&◌, nat_lt, nat_le, Bool, true, false, List, [], ◌∷◌, length, if◌then◌else◌}
+use Rattle.cf_reference.specs.Bytes as byte
 
 -- A line of a script: its bytes, and whether a newline ends it.
 pub record Line : Type 0 where
@@ -6,7 +7,7 @@ pub record Line : Type 0 where
   pub newline : Bool
 
 abbrev pub line_end : Bool → List ℕ
-line_end newline = if newline then 10 ∷ [] else []
+line_end newline = if newline then byte.newline ∷ [] else []
 
 -- the bytes that a line takes up in the script, with its newline
 abbrev pub size : Line → ℕ
@@ -20,11 +21,11 @@ put_first b (line ∷ more) = record { bytes = b ∷ line.bytes; newline = line.
 -- The lines of a script: it is cut at newlines, and the last piece is a line if it has bytes.
 unfoldable pub lines : List ℕ → List Line
 lines [] = []
-lines (b ∷ rest) = if b == 10 then record { bytes = []; newline = true } ∷ lines rest else put_first b (lines rest)
+lines (b ∷ rest) = if b == byte.newline then record { bytes = []; newline = true } ∷ lines rest else put_first b (lines rest)
 
 abbrev pub NoNewline : List ℕ → Type 0
 NoNewline [] = Unit {0}
-NoNewline (b ∷ bytes) = (b ≢ 10) × NoNewline bytes
+NoNewline (b ∷ bytes) = (b ≢ byte.newline) × NoNewline bytes
 
 -- the most bytes of a line, without its newline
 abbrev pub line_limit : ℕ

@@ -6,9 +6,10 @@ use Rattle.cf_reference.specs.declared.grammar.Keyword.{Keyword}
 use Rattle.cf_reference.specs.declared.grammar.Keyword.TheVariants as keyword
 use Rattle.cf_reference.specs.declared.grammar.Head.{Head}
 use Rattle.cf_reference.specs.Heads.{Kind, AnExpression, head_of, takes, kind_at}
-use Rattle.cf_reference.specs.Words.{before_comment, words, open_sign, close_sign, comma, equals, natural, number, is_name, is_bits}
+use Rattle.cf_reference.specs.Words.{before_comment, behind_word, words, open_sign, close_sign, comma, equals, natural, number, is_name, is_bits}
 use Rattle.cf_reference.specs.Trees.{Atom, Tree, Arguments, Call, none, more, atom, count, Statement, Empty, Level, Vars, Let, Value, First, Listed, Equal, Size, Stats, statement_fits}
 use Rattle.cf_reference.specs.Grammar.{keyword_of, leaf, atom_of}
+use Rattle.cf_reference.specs.Bytes as byte
 use Rattle.cf_reference.specs.LineRefusals.{Parsed, TooDeep, Malformed, WideNumber, Good, Parses}
 
 -- What a line comes to, worked out from its words. It is what the relation `Parses` says of the line.
@@ -88,27 +89,28 @@ abbrev pub listed : List ℕ → Option ℤ → Option ℤ → Option Statement
 listed name (Some n) (Some most) = Some (Listed name n most)
 listed name n most = None
 
--- the statement that the words behind a keyword spell
-abbrev pub behind : Keyword → List (List ℕ) → Option Statement
-behind keyword.Level (k ∷ []) = option_map Level (natural k)
-behind keyword.Var all = if nat_le 1 (length all) && list_all is_name all then Some (Vars all) else None
-behind keyword.Let (name ∷ sign ∷ rest) =
+-- the statement that the bytes behind a keyword, with their words, spell
+abbrev pub behind : Keyword → List ℕ → List (List ℕ) → Option Statement
+behind keyword.Level bytes (k ∷ []) = option_map Level (natural k)
+behind keyword.Var bytes all = if nat_le 1 (length all) && list_all is_name all then Some (Vars all) else None
+behind keyword.Let bytes (name ∷ sign ∷ rest) =
     if is_name name && bytes_eq sign equals then defined name ((readers (length rest)).tree_at rest) else None
-behind keyword.Value (name ∷ bits ∷ []) = if is_name name && is_bits bits then Some (Value name bits) else None
-behind keyword.First (name ∷ v ∷ []) = if is_name name then option_map (First name) (number v) else None
-behind keyword.List (name ∷ v ∷ m ∷ []) = if is_name name then listed name (number v) (natural m) else None
-behind keyword.Equal (name ∷ other ∷ []) = if is_name name && is_name other then Some (Equal name other) else None
-behind keyword.Size (name ∷ []) = if is_name name then Some (Size name) else None
-behind keyword.Stats [] = Some Stats
-behind key all = None
+behind keyword.Value bytes (name ∷ bits ∷ []) = if is_name name && is_bits bits then Some (Value name bits) else None
+behind keyword.First bytes (name ∷ v ∷ []) = if is_name name then option_map (First name) (number v) else None
+behind keyword.List bytes (name ∷ v ∷ m ∷ []) = if is_name name then listed name (number v) (natural m) else None
+behind keyword.Equal bytes (name ∷ other ∷ []) = if is_name name && is_name other then Some (Equal name other) else None
+behind keyword.Size bytes (name ∷ []) = if is_name name then Some (Size name) else None
+behind keyword.Stats bytes [] = Some Stats
+behind key bytes all = None
 
-abbrev pub keyed : Option Keyword → List (List ℕ) → Option Statement
-keyed None all = None
-keyed (Some key) all = behind key all
+abbrev pub keyed : Option Keyword → List ℕ → List (List ℕ) → Option Statement
+keyed None bytes all = None
+keyed (Some key) bytes all = behind key bytes all
 
-unfoldable pub statement_at : List (List ℕ) → Option Statement
-statement_at [] = Some Empty
-statement_at (word ∷ all) = keyed (keyword_of word) all
+-- the statement that a text, with its words, spells
+unfoldable pub statement_at : List ℕ → List (List ℕ) → Option Statement
+statement_at text [] = Some Empty
+statement_at text (word ∷ all) = keyed (keyword_of word) (behind_word text) all
 
 -- whether some prefix passes a test
 abbrev pub some_prefix : (List ℕ → Bool) → List ℕ → Bool
@@ -116,14 +118,14 @@ some_prefix test [] = test []
 some_prefix test (b ∷ rest) = test [] || some_prefix (λ front. test (b ∷ front)) rest
 
 unfoldable pub is_deep : List ℕ → Bool
-is_deep text = some_prefix (λ front. nat_le (count_by (λ b. b == 41) front + 65) (count_by (λ b. b == 40) front)) text
+is_deep text = some_prefix (λ front. nat_le (count_by (λ b. b == byte.close_sign) front + 65) (count_by (λ b. b == byte.open_sign) front)) text
 
 abbrev pub judged : Option Statement → Parsed
 judged None = Malformed
 judged (Some t) = if statement_fits t then Good t else WideNumber
 
 abbrev pub parse : List ℕ → Parsed
-parse line = if is_deep (before_comment line) then TooDeep else judged (statement_at (words (before_comment line)))
+parse line = if is_deep (before_comment line) then TooDeep else judged (statement_at (before_comment line) (words (before_comment line)))
 
 -- Each line comes to what is worked out.
 abbrev pub LinesParse : Type 0

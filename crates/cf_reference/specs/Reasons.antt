@@ -51,3 +51,7 @@ detail other = []
 -- a refusal where a condition doesn't hold
 abbrev pub unless : Bool → Refusal → Option Refusal
 unless holds r = if holds then None else Some r
+
+-- a refusal where a condition holds
+abbrev pub where_holds : Bool → Refusal → Option Refusal
+where_holds holds r = if holds then Some r else None

@@ -2,10 +2,11 @@ use Rattle.std.specs.Prelude.{ℕ, ℤ, Bool, List, [], ◌∷◌, ◌++◌, map
 use Rattle.std.specs.Fmt.{signed_decimal}
 use Rattle.std.specs.List.{join_with_byte}
 use Rattle.cf_model.specs.Assignments.{digits_of}
+use Rattle.cf_reference.specs.Bytes as byte
 
 -- a line of words, with one blank between two of them
 abbrev pub reply : List (List ℕ) → List ℕ
-reply words = join_with_byte 32 words ++ 10 ∷ []
+reply words = join_with_byte byte.space words ++ byte.newline ∷ []
 
 abbrev pub value_reply : ℤ → List ℕ
 value_reply v = reply (signed_decimal v ∷ [])
@@ -42,4 +43,4 @@ abbrev pub refusal : ℕ → ℕ → List (List ℕ) → List ℕ
 refusal line number detail = reply (codes "refused" ∷ decimal line ∷ decimal number ∷ detail)
 
 abbrev pub usage_reply : List ℕ
-usage_reply = codes "usage: cflobdd run | gen N | check A B | dump FILE" ++ 10 ∷ []
+usage_reply = codes "usage: cflobdd run | gen N | check A B | dump FILE" ++ byte.newline ∷ []

@@ -7,25 +7,25 @@ use Rattle.cf_reference.specs.Reasons.{number, detail}
 use Rattle.cf_reference.specs.Reasons as reason
 use Rattle.cf_reference.specs.Replies.{refusal as refusal_reply, usage_reply}
 use Rattle.cf_reference.specs.Parsing.{parse}
-use Rattle.cf_reference.specs.States.{State, IsState, initial}
+use Rattle.cf_reference.specs.States.{State, Files, IsState, initial}
 use Rattle.cf_reference.specs.Carrying.{Outcome, Refuses, Goes, step}
 
 -- The reference run: what a script's lines do one after another.
 
-abbrev pub step_parsed : State → Parsed → Outcome
-step_parsed s line.TooDeep = Refuses reason.TooDeep
-step_parsed s line.Malformed = Refuses reason.Malformed
-step_parsed s line.WideNumber = Refuses reason.WideNumber
-step_parsed s (line.Good t) = step s t
+abbrev pub step_parsed : Files → State → Parsed → Outcome
+step_parsed files s line.TooDeep = Refuses reason.TooDeep
+step_parsed files s line.Malformed = Refuses reason.Malformed
+step_parsed files s line.WideNumber = Refuses reason.WideNumber
+step_parsed files s (line.Good t) = step files s t
 
-abbrev pub carry_fitting : State → List ℕ → Fit → Outcome
-carry_fitting s bytes Fits = step_parsed s (parse bytes)
-carry_fitting s bytes LineTooLong = Refuses reason.LineTooLong
-carry_fitting s bytes ScriptTooLong = Refuses reason.ScriptTooLong
+abbrev pub carry_fitting : Files → State → List ℕ → Fit → Outcome
+carry_fitting files s bytes Fits = step_parsed files s (parse bytes)
+carry_fitting files s bytes LineTooLong = Refuses reason.LineTooLong
+carry_fitting files s bytes ScriptTooLong = Refuses reason.ScriptTooLong
 
 -- what a line does that begins behind `before` bytes of the script
-unfoldable pub carry : State → ℕ → Line → Outcome
-carry s before l = carry_fitting s l.bytes (fit before l)
+unfoldable pub carry : Files → State → ℕ → Line → Outcome
+carry files s before l = carry_fitting files s l.bytes (fit before l)
 
 -- the text that a line adds, the line having number n
 abbrev pub text_of : ℕ → Outcome → List ℕ
@@ -59,24 +59,24 @@ abbrev pub adds : List ℕ → Ending → Ending
 adds text end = record { text = text ++ end.text; close = end.close; state = end.state; read = end.read }
 
 -- the run from state s over lines, the first of which has number n and begins behind `before` bytes of the script
-unfoldable pub run_lines : State → ℕ → ℕ → List Line → Ending
-run_lines s n before [] = record { text = []; close = Done; state = s; read = before }
-run_lines s n before (l ∷ later) =
-    if refuses (carry s before l)
-    then record { text = text_of n (carry s before l); close = Refused; state = s; read = known_by before l (fit before l) }
-    else adds (text_of n (carry s before l)) (run_lines (state_of s (carry s before l)) (n + 1) (before + size l) later)
+unfoldable pub run_lines : Files → State → ℕ → ℕ → List Line → Ending
+run_lines files s n before [] = record { text = []; close = Done; state = s; read = before }
+run_lines files s n before (l ∷ later) =
+    if refuses (carry files s before l)
+    then record { text = text_of n (carry files s before l); close = Refused; state = s; read = known_by before l (fit before l) }
+    else adds (text_of n (carry files s before l)) (run_lines files (state_of s (carry files s before l)) (n + 1) (before + size l) later)
 
 -- the words that run a script
 abbrev pub is_run : List (List ℕ) → Bool
 is_run (word ∷ []) = bytes_eq word (codes "run")
 is_run others = false
 
--- what the program does with its words and a script
-abbrev pub ref : List (List ℕ) → List ℕ → Ending
-ref words script =
-    if is_run words then run_lines initial 1 0 (lines script)
+-- what the program does with its words and a script, where there are these files
+abbrev pub ref : Files → List (List ℕ) → List ℕ → Ending
+ref files words script =
+    if is_run words then run_lines files initial 1 0 (lines script)
     else record { text = usage_reply; close = Usage; state = initial; read = 0 }
 
 -- The state that a run ends with has a level of 0 to 7, and flat functions.
 abbrev pub RunsEndInStates : Type 0
-RunsEndInStates = (said : List (List ℕ)) (script : List ℕ) → IsState (ref said script).state
+RunsEndInStates = (files : Files) (said : List (List ℕ)) (script : List ℕ) → IsState (ref files said script).state

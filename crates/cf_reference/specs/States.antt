@@ -1,4 +1,4 @@
-use Rattle.std.specs.Prelude.{◌≡◌, ◌≤◌, ◌^◌, ℕ, ℤ, pos, int_le, int_lt, ◌&&◌, ◌||◌, All, length, Bool, false, List, [], ◌∷◌, Option, Some, None, unwrap_or, is_some, option_map, if◌then◌else◌}
+use Rattle.std.specs.Prelude.{◌≡◌, ◌≤◌, ◌^◌, ℕ, ℤ, pos, int_le, int_lt, ◌&&◌, ◌||◌, All, length, Bool, false, List, [], ◌∷◌, ◌++◌, map, Option, Some, None, unwrap_or, is_some, option_map, if◌then◌else◌}
 use Rattle.std.specs.List.{list_any}
 use Rattle.std.specs.Option.{option_or}
 use Rattle.std.specs.Str.{bytes_eq}
@@ -11,6 +11,10 @@ pub record State : Type 0 where
   pub level : Option ℕ
   pub variables : List (List ℕ)
   pub functions : List (List ℕ × FlatFunction)
+
+-- Files by name, with their contents.
+abbrev pub Files : Type 0
+Files = List (List ℕ × List ℕ)
 
 -- neither a level nor names
 abbrev pub initial : State
@@ -68,10 +72,15 @@ abbrev pub repeats : List (List ℕ) → Bool
 repeats [] = false
 repeats (name ∷ later) = is_among later name || repeats later
 
+-- all names: those of the variables, and then those of the functions
+abbrev pub names_in : State → List (List ℕ)
+names_in s = s.variables ++ map (λ binding. binding.0) s.functions
+
 -- What holds of each state that a run reaches: the level is 0 to 7, there are names only once it is set, there are at
--- most 2 ^ level variables, and each function is a flat function.
+-- most 2 ^ level variables, each function is a flat function, and no name is bound twice.
 pub record IsState (s : State) : Type 0 where
   pub low : level_in s ≤ 7
   pub unset : s.level ≡ None → (s.variables ≡ []) × (s.functions ≡ [])
   pub room : length s.variables ≤ 2 ^ level_in s
   pub flat : All (λ binding. IsFlatFunction binding.1) s.functions
+  pub differ : repeats (names_in s) ≡ false

@@ -6,7 +6,7 @@ use Rattle.std.proofs.lemmas.Bool.{and_left, and_right}
 use Rattle.cf_model.specs.Values.{fits, fitting}
 use Rattle.cf_reference.specs.declared.grammar.Keyword.{Keyword}
 use Rattle.cf_reference.specs.declared.grammar.Keyword.TheVariants as keyword
-use Rattle.cf_reference.specs.Words.{before_comment, words, natural, number, is_name, equals}
+use Rattle.cf_reference.specs.Words.{before_comment, behind_word, words, natural, number, is_name, equals}
 use Rattle.cf_reference.specs.Trees.{tree_fits, Statement, Level, Let, First, Listed, statement_fits, Formed}
 use Rattle.cf_reference.specs.Grammar.{keyword_of, SpellsTree, SpellsBehind}
 use Rattle.cf_reference.specs.LineRefusals.{IsDeep}
@@ -23,9 +23,9 @@ use Rattle.cf_script.proofs.NumberFacts.{no_fit}
 use Rattle.cf_script.proofs.ReadingFacts.{has-number}
 use Rattle.cf_script.proofs.WideFacts.{whole-fits, whole-wide, keyword-memory}
 
--- the words behind a keyword spell a statement with a number that doesn't fit
-abbrev pub IsWide : Keyword → List (List ℕ) → Type 0
-IsWide key all = (t : Statement) × SpellsBehind key t all × (statement_fits t ≡ false)
+-- the bytes behind a keyword, with their words, spell a statement with a number that doesn't fit
+abbrev pub IsWide : Keyword → List ℕ → List (List ℕ) → Type 0
+IsWide key bytes all = (t : Statement) × SpellsBehind key t bytes all × (statement_fits t ≡ false)
 
 -- a number that was read and doesn't fit
 record HasWide (of : Option ℤ) : Type 0 where
@@ -38,14 +38,14 @@ has_wide of value none read =
     let h = has-number of value read in
     record { n = h.n; is = h.is; wide = no_fit h.n (sym h.value ∙ none) }
 
-pub level-wide : (word : List ℕ) (all : List (List ℕ)) (value : Option ℤ) → all ≡ word ∷ [] → value ≡ None → Some value ≡ option_map fitting (natural word) → IsWide keyword.Level all
-level-wide word all value is none read =
+pub level-wide : (bytes word : List ℕ) (all : List (List ℕ)) (value : Option ℤ) → all ≡ word ∷ [] → value ≡ None → Some value ≡ option_map fitting (natural word) → IsWide keyword.Level bytes all
+level-wide bytes word all value is none read =
     let h = has_wide (natural word) value none read in
     (Level h.n, (word, h.n, is, h.is, refl), h.wide)
 
-pub first-wide : (name word : List ℕ) (all : List (List ℕ)) (value : Option ℤ) → all ≡ name ∷ word ∷ [] → is_name name ≡ true → value ≡ None → Some value ≡ option_map fitting (number word)
-    → IsWide keyword.First all
-first-wide name word all value is named none read =
+pub first-wide : (bytes name word : List ℕ) (all : List (List ℕ)) (value : Option ℤ) → all ≡ name ∷ word ∷ [] → is_name name ≡ true → value ≡ None → Some value ≡ option_map fitting (number word)
+    → IsWide keyword.First bytes all
+first-wide bytes name word all value is named none read =
     let h = has_wide (number word) value none read in
     (First name h.n, (name, word, h.n, is, named, h.is, refl), h.wide)
 
@@ -55,47 +55,51 @@ not_both None most n m none is_n is_m = and_left (fits n) (fits m) (no_fit n (sy
 not_both (Some v) None n m none is_n is_m = and_right (fits n) (fits m) (no_fit m (sym is_m))
 not_both (Some v) (Some w) n m none is_n is_m = cc
 
-pub list-wide : (name word most_word : List ℕ) (all : List (List ℕ)) (value most : Option ℤ) → all ≡ name ∷ word ∷ most_word ∷ [] → is_name name ≡ true → None ≡ option_zip value most
-    → Some value ≡ option_map fitting (number word) → Some most ≡ option_map fitting (natural most_word) → IsWide keyword.List all
-list-wide name word most_word all value most is named none read_value read_most =
+pub list-wide : (bytes name word most_word : List ℕ) (all : List (List ℕ)) (value most : Option ℤ) → all ≡ name ∷ word ∷ most_word ∷ [] → is_name name ≡ true → None ≡ option_zip value most
+    → Some value ≡ option_map fitting (number word) → Some most ≡ option_map fitting (natural most_word) → IsWide keyword.List bytes all
+list-wide bytes name word most_word all value most is named none read_value read_most =
     let h = has-number (number word) value read_value in
     let k = has-number (natural most_word) most read_most in
     (Listed name h.n k.n, (name, word, most_word, h.n, k.n, is, named, h.is, k.is, refl), not_both value most h.n k.n none h.value k.value)
 
 -- an expression that was read, of which nothing is left, is what the words spell
-pub let-good : (name : List ℕ) (e : Expr) (all inside : List (List ℕ)) → SpellsName name all inside → IsReading e inside [] → any_wide inside ≡ false
-    → SpellsBehind keyword.Let (Let name (tree_of e)) all × (tree_fits (tree_of e) ≡ true)
-let-good name e all inside s r narrow =
+pub let-good : (bytes name : List ℕ) (e : Expr) (all inside : List (List ℕ)) → SpellsName name all inside → IsReading e inside [] → any_wide inside ≡ false
+    → SpellsBehind keyword.Let (Let name (tree_of e)) bytes all × (tree_fits (tree_of e) ≡ true)
+let-good bytes name e all inside s r narrow =
     let fit = whole-fits r.tree inside r.spells narrow in
     let shown = r.shows fit in
     ((name, r.tree, inside, s.words, s.named, r.spells, ap (Let name) shown), ap tree_fits shown ∙ fit)
 
-pub let-wide : (name : List ℕ) (e : Expr) (all inside : List (List ℕ)) → SpellsName name all inside → IsReading e inside [] → any_wide inside ≡ true → IsWide keyword.Let all
-let-wide name e all inside s r wide = (Let name r.tree, (name, r.tree, inside, s.words, s.named, r.spells, refl), whole-wide r.tree inside r.spells wide)
+pub let-wide : (bytes name : List ℕ) (e : Expr) (all inside : List (List ℕ)) → SpellsName name all inside → IsReading e inside [] → any_wide inside ≡ true → IsWide keyword.Let bytes all
+let-wide bytes name e all inside s r wide = (Let name r.tree, (name, r.tree, inside, s.words, s.named, r.spells, refl), whole-wide r.tree inside r.spells wide)
 
 -- where a name and `=` come first, what is spelled behind them is the rest
 behind_name : (name other : List ℕ) (all inside rest : List (List ℕ)) → SpellsName name all inside → all ≡ other ∷ equals ∷ rest → rest ≡ inside
 behind_name name other all inside rest s is = sym (tail_is (tail_is (sym s.words ∙ is)))
 
-pub let-more : (name : List ℕ) (e : Expr) (all inside rest : List (List ℕ)) → SpellsName name all inside → IsReading e inside rest → (rest ≡ [] → ⊥) → (t : Statement) → SpellsBehind keyword.Let t all → ⊥
-let-more name e all inside rest s r left t h =
+pub let-more : (bytes name : List ℕ) (e : Expr) (all inside rest : List (List ℕ)) → SpellsName name all inside → IsReading e inside rest → (rest ≡ [] → ⊥) → (t : Statement) → SpellsBehind keyword.Let t bytes all → ⊥
+let-more bytes name e all inside rest s r left t h =
     let u = unique h.1 inside [] r.tree rest (subst (λ a. SpellsTree h.1 a []) (behind_name name h.0 all inside h.2 s h.3) h.5) r.spells in
     left (sym u.1)
 
-pub let-none : (name : List ℕ) (all inside : List (List ℕ)) → SpellsName name all inside → SpellsNone inside → (t : Statement) → SpellsBehind keyword.Let t all → ⊥
-let-none name all inside s nothing t h = nothing h.1 [] (subst (λ a. SpellsTree h.1 a []) (behind_name name h.0 all inside h.2 s h.3) h.5)
+pub let-none : (bytes name : List ℕ) (all inside : List (List ℕ)) → SpellsName name all inside → SpellsNone inside → (t : Statement) → SpellsBehind keyword.Let t bytes all → ⊥
+let-none bytes name all inside s nothing t h = nothing h.1 [] (subst (λ a. SpellsTree h.1 a []) (behind_name name h.0 all inside h.2 s h.3) h.5)
 
-pub let-unnamed : (all : List (List ℕ)) → ((name : List ℕ) (rest : List (List ℕ)) → SpellsName name all rest → ⊥) → (t : Statement) → SpellsBehind keyword.Let t all → ⊥
-let-unnamed all nothing t h = nothing h.0 h.2 (record { words = h.3; named = h.4 })
+pub let-unnamed : (bytes : List ℕ) (all : List (List ℕ)) → ((name : List ℕ) (rest : List (List ℕ)) → SpellsName name all rest → ⊥) → (t : Statement) → SpellsBehind keyword.Let t bytes all → ⊥
+let-unnamed bytes all nothing t h = nothing h.0 h.2 (record { words = h.3; named = h.4 })
 
--- what a keyword's words come to is formed, where not more than 64 parentheses are open at once
-pub formed-answer : (line word : List ℕ) (rest : List (List ℕ)) (key : Keyword) (r : Result code.Statement ScriptFault) → words (before_comment line) ≡ word ∷ rest → Some key ≡ keyword_of word
-    → (IsDeep (before_comment line) → ⊥) → Answers key rest r → IfOk r (λ s. Formed (statement_of s))
-formed-answer line word rest key (Ok s) is of shallow a = words_formed (before_comment line) (statement_of s) (word ∷ rest) is (key, sym of, a.0) a.1 shallow
-formed-answer line word rest key (Err e) is of shallow a = tt
+-- what the bytes behind a keyword come to is formed, where not more than 64 parentheses are open at once
+pub formed-answer : (line word bytes : List ℕ) (rest : List (List ℕ)) (key : Keyword) (r : Result code.Statement ScriptFault)
+    → words (before_comment line) ≡ word ∷ rest → behind_word (before_comment line) ≡ bytes → Some key ≡ keyword_of word
+    → (IsDeep (before_comment line) → ⊥) → Answers key bytes rest r → IfOk r (λ s. Formed (statement_of s))
+formed-answer line word bytes rest key (Ok s) is behind of shallow a =
+    words_formed (before_comment line) (statement_of s) (word ∷ rest) is
+    (key, sym of, subst (λ b. SpellsBehind key (statement_of s) b rest) (sym behind) a.0) a.1 shallow
+formed-answer line word bytes rest key (Err e) is behind of shallow a = tt
 
-pub memory-answer : (line word : List ℕ) (rest : List (List ℕ)) (key : Keyword) (r : Result code.Statement ScriptFault) → words (before_comment line) ≡ word ∷ rest → Some key ≡ keyword_of word
-    → Answers key rest r → r ≡ Err fault.NoMemory → takes_memory (words (before_comment line)) ≡ true
-memory-answer line word rest key r is of a e =
-    let keeps : keeps_memory key ≡ true = subst (Answers key rest) e a in
+pub memory-answer : (line word bytes : List ℕ) (rest : List (List ℕ)) (key : Keyword) (r : Result code.Statement ScriptFault)
+    → words (before_comment line) ≡ word ∷ rest → Some key ≡ keyword_of word
+    → Answers key bytes rest r → r ≡ Err fault.NoMemory → takes_memory (words (before_comment line)) ≡ true
+memory-answer line word bytes rest key r is of a e =
+    let keeps : keeps_memory key ≡ true = subst (Answers key bytes rest) e a in
     ap takes_memory is ∙ keyword-memory word rest key (sym of) keeps

@@ -4,7 +4,7 @@ use Rattle.std.specs.Prelude.{Option, IfNone, position, slice_index}
 use Rattle.memchr.specs.Find.{IsFirstByte, is_byte}
 use Rattle.std.specs.List.{position_from}
 use Rattle.std.proofs.lemmas.Iterator.Adapters.{position_from-zero}
-use Rattle.cf_reference.specs.Words.{before_comment, words, is_blank, is_sign, runs, begins_run, lengthen}
+use Rattle.cf_reference.specs.Words.{before_comment, words, is_blank, is_sign, runs, begins_run, lengthen, behind_run, behind_word}
 
 abbrev is_hash : ℕ → Bool
 is_hash b = b == 35
@@ -46,9 +46,10 @@ comment-none line none = no_hash line (λ m below is. none m (omega arith) below
 pub record Visible (text : List ℕ) (start : ℕ) : Type 0 where
   pub same : words text ≡ words (drop start text)
   pub begins : is_blank (get_or (drop start text) 0 0) ≡ false
+  pub behind : behind_word text ≡ behind_word (drop start text)
 
 visible_at : (text : List ℕ) (k place : ℕ) → position_from is_visible k text ≡ Some place → (start : ℕ) × (place ≡ k + start) × Visible text start
-unfolding words
+unfolding words behind_word
 visible_at [] k place some = cc
 visible_at (b ∷ text) k place some = at (is_blank b) refl (visible_at text (k + 1) place) some
   where
@@ -57,8 +58,8 @@ visible_at (b ∷ text) k place some = at (is_blank b) refl (visible_at text (k 
         → (start : ℕ) × (place ≡ k + start) × Visible (b ∷ text) start
     at true is later h =
         let v = later h in
-        (suc v.0, omega (arith, v.1), record { same = rw is v.2.same; begins = v.2.begins })
-    at false is later h = (0, omega (arith, let e : k ≡ place = cc in e), record { same = refl; begins = is })
+        (suc v.0, omega (arith, v.1), record { same = rw is v.2.same; begins = v.2.begins; behind = rw is v.2.behind })
+    at false is later h = (0, omega (arith, let e : k ≡ place = cc in e), record { same = refl; begins = is; behind = refl })
 
 not_visible : (text : List ℕ) (k : ℕ) → position_from is_visible k text ≡ None → words text ≡ []
 unfolding words
@@ -151,6 +152,60 @@ word-whole (b ∷ rest) some visible sign place =
     let from : cond (ends_run b) (Some 0) (position_from ends_run 1 rest) ≡ None = sym (position_from-zero ends_run (b ∷ rest)) ∙ place in
     let later : position_from ends_run 1 rest ≡ None = (rw first at from) in
     rw (all_of rest, none_of rest) (run_whole b rest 1 visible sign later)
+
+-- the bytes behind a run, up to the byte that ends it
+behind_at : (rest : List ℕ) (k place : ℕ) → position_from ends_run k rest ≡ Some place
+    → (end : ℕ) × (place ≡ k + end) × (behind_run rest ≡ drop end rest)
+unfolding behind_run
+behind_at [] k place some = cc
+behind_at (b ∷ rest) k place some = at (runs b) refl (behind_at rest (k + 1) place) some
+  where
+    at : (t : Bool) → runs b ≡ t
+        → (position_from ends_run (k + 1) rest ≡ Some place → (end : ℕ) × (place ≡ k + 1 + end) × (behind_run rest ≡ drop end rest))
+        → cond (not t) (Some k) (position_from ends_run (k + 1) rest) ≡ Some place
+        → (end : ℕ) × (place ≡ k + end) × (cond t (behind_run rest) (b ∷ rest) ≡ drop end (b ∷ rest))
+    at true is later h = let r = later h in (suc r.0, omega (arith, r.1), r.2)
+    at false is later h = (0, omega (arith, let e : k ≡ place = cc in e), refl)
+
+behind_none : (rest : List ℕ) (k : ℕ) → position_from ends_run k rest ≡ None → behind_run rest ≡ drop (length rest) rest
+unfolding behind_run
+behind_none [] k none = refl
+behind_none (b ∷ rest) k none = at (runs b) refl (behind_none rest (k + 1)) none
+  where
+    at : (t : Bool) → runs b ≡ t → (position_from ends_run (k + 1) rest ≡ None → behind_run rest ≡ drop (length rest) rest)
+        → cond (not t) (Some k) (position_from ends_run (k + 1) rest) ≡ None
+        → cond t (behind_run rest) (b ∷ rest) ≡ drop (length (b ∷ rest)) (b ∷ rest)
+    at true is later h = later h
+    at false is later h = cc
+
+-- the bytes behind a text's first word
+pub behind-sign : (text : List ℕ) → 0 < length text → is_blank (get_or text 0 0) ≡ false → is_sign (get_or text 0 0) ≡ true
+    → behind_word text ≡ drop 1 text
+unfolding behind_word
+behind-sign [] some visible sign = absurd (omega arith)
+behind-sign (b ∷ rest) some visible sign = rw (visible, sign) refl
+
+pub behind-run : (text : List ℕ) (end : ℕ) → 0 < length text → is_blank (get_or text 0 0) ≡ false
+    → is_sign (get_or text 0 0) ≡ false → position ends_run text ≡ Some end → behind_word text ≡ drop end text
+unfolding behind_word
+behind-run [] end some visible sign place = absurd (omega arith)
+behind-run (b ∷ rest) end some visible sign place =
+    let first : ends_run b ≡ false = rw (visible, sign) refl in
+    let from : cond (ends_run b) (Some 0) (position_from ends_run 1 rest) ≡ Some end = sym (position_from-zero ends_run (b ∷ rest)) ∙ place in
+    let later : position_from ends_run 1 rest ≡ Some end = (rw first at from) in
+    let r = behind_at rest 1 end later in
+    let e : end ≡ suc r.0 = omega (arith, r.1) in
+    rw (visible, sign, e) r.2
+
+pub behind-whole : (text : List ℕ) → 0 < length text → is_blank (get_or text 0 0) ≡ false
+    → is_sign (get_or text 0 0) ≡ false → position ends_run text ≡ None → behind_word text ≡ drop (length text) text
+unfolding behind_word
+behind-whole [] some visible sign place = absurd (omega arith)
+behind-whole (b ∷ rest) some visible sign place =
+    let first : ends_run b ≡ false = rw (visible, sign) refl in
+    let from : cond (ends_run b) (Some 0) (position_from ends_run 1 rest) ≡ None = sym (position_from-zero ends_run (b ∷ rest)) ∙ place in
+    let later : position_from ends_run 1 rest ≡ None = (rw first at from) in
+    rw (visible, sign) (behind_none rest 1 later)
 
 -- a sign is the first word of the text that it begins
 pub sign-before : (text rest : List ℕ) (sign : ℕ) → text ≡ sign ∷ rest → is_blank sign ≡ false → is_sign sign ≡ true → words text ≡ (sign ∷ []) ∷ words rest

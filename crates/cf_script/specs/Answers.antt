@@ -24,13 +24,13 @@ abbrev pub takes_memory : List (List ℕ) → Bool
 takes_memory [] = false
 takes_memory (word ∷ rest) = bytes_eq word (codes "var") || bytes_eq word (codes "let")
 
--- What a keyword and the words behind it come to, by cases on the answer.
-abbrev pub Answers : Keyword → List (List ℕ) → Result Statement ScriptFault → Type 0
-Answers key all (Ok s) = SpellsBehind key (statement_of s) all × (statement_fits (statement_of s) ≡ true)
-Answers key all (Err fault.NoMemory) = IsTrue (keeps_memory key)
-Answers key all (Err fault.Malformed) = (t : tree.Statement) → SpellsBehind key t all → ⊥
-Answers key all (Err fault.WideNumber) = (t : tree.Statement) × SpellsBehind key t all × (statement_fits t ≡ false)
-Answers key all (Err fault.TooDeep) = ⊥
+-- What a keyword and the bytes behind it, with their words, come to, by cases on the answer.
+abbrev pub Answers : Keyword → List ℕ → List (List ℕ) → Result Statement ScriptFault → Type 0
+Answers key bytes all (Ok s) = SpellsBehind key (statement_of s) bytes all × (statement_fits (statement_of s) ≡ true)
+Answers key bytes all (Err fault.NoMemory) = IsTrue (keeps_memory key)
+Answers key bytes all (Err fault.Malformed) = (t : tree.Statement) → SpellsBehind key t bytes all → ⊥
+Answers key bytes all (Err fault.WideNumber) = (t : tree.Statement) × SpellsBehind key t bytes all × (statement_fits t ≡ false)
+Answers key bytes all (Err fault.TooDeep) = ⊥
 
 -- a name and `=`, with the rest behind them
 pub record SpellsName (name : List ℕ) (all rest : List (List ℕ)) : Type 0 where

@@ -97,7 +97,7 @@ fn read_statement<'a>(
     keyword: Keyword,
     text: &'a [u8],
 ) -> Result<Statement<'a>, ScriptFault>
-    ensures { Answers keyword (words text.now) result }
+    ensures { Answers keyword text.now (words text.now) result }
 {
     match keyword {
         Keyword::Level => read_level(text),
@@ -145,7 +145,7 @@ fn three_words(text: &[u8]) -> Option<(&[u8], &[u8], &[u8])>
 
 /// `level K`
 fn read_level(text: &[u8]) -> Result<Statement<'_>, ScriptFault>
-    ensures { Answers Keyword.Level (words text.now) result }
+    ensures { Answers Keyword.Level text.now (words text.now) result }
 {
     let Some(word) = one_word(text) else {
         return Err(ScriptFault::Malformed);
@@ -159,7 +159,7 @@ fn read_level(text: &[u8]) -> Result<Statement<'_>, ScriptFault>
 
 /// `var NAME ..`
 fn read_vars<'a>(alloc: Global, text: &'a [u8]) -> Result<Statement<'a>, ScriptFault>
-    ensures { Answers Keyword.Var (words text.now) result }
+    ensures { Answers Keyword.Var text.now (words text.now) result }
 {
     let mut names = NameSlices::new(alloc);
     let mut rest = text;
@@ -199,7 +199,7 @@ fn let_name(text: &[u8]) -> Option<(&[u8], &[u8])>
 
 /// `let NAME = EXPR`
 fn read_let<'a>(alloc: Global, text: &'a [u8]) -> Result<Statement<'a>, ScriptFault>
-    ensures { Answers Keyword.Let (words text.now) result }
+    ensures { Answers Keyword.Let text.now (words text.now) result }
 {
     let Some((name, text)) = let_name(text) else {
         return Err(ScriptFault::Malformed);
@@ -245,7 +245,7 @@ fn has_wide_number(text: &[u8]) -> bool
 
 /// `value NAME BITS`
 fn read_value(text: &[u8]) -> Result<Statement<'_>, ScriptFault>
-    ensures { Answers Keyword.Value (words text.now) result }
+    ensures { Answers Keyword.Value text.now (words text.now) result }
 {
     match two_words(text) {
         Some((name, bits)) => {
@@ -261,7 +261,7 @@ fn read_value(text: &[u8]) -> Result<Statement<'_>, ScriptFault>
 
 /// `first NAME NUMBER`
 fn read_first(text: &[u8]) -> Result<Statement<'_>, ScriptFault>
-    ensures { Answers Keyword.First (words text.now) result }
+    ensures { Answers Keyword.First text.now (words text.now) result }
 {
     let Some((name, value)) = two_words(text) else {
         return Err(ScriptFault::Malformed);
@@ -278,7 +278,7 @@ fn read_first(text: &[u8]) -> Result<Statement<'_>, ScriptFault>
 
 /// `list NAME NUMBER MAX`
 fn read_list(text: &[u8]) -> Result<Statement<'_>, ScriptFault>
-    ensures { Answers Keyword.List (words text.now) result }
+    ensures { Answers Keyword.List text.now (words text.now) result }
 {
     let Some((name, value, most)) = three_words(text) else {
         return Err(ScriptFault::Malformed);
@@ -300,7 +300,7 @@ fn read_list(text: &[u8]) -> Result<Statement<'_>, ScriptFault>
 
 /// `equal NAME NAME`
 fn read_equal(text: &[u8]) -> Result<Statement<'_>, ScriptFault>
-    ensures { Answers Keyword.Equal (words text.now) result }
+    ensures { Answers Keyword.Equal text.now (words text.now) result }
 {
     match two_words(text) {
         Some((name, other)) => {
@@ -316,7 +316,7 @@ fn read_equal(text: &[u8]) -> Result<Statement<'_>, ScriptFault>
 
 /// `size NAME`
 fn read_size(text: &[u8]) -> Result<Statement<'_>, ScriptFault>
-    ensures { Answers Keyword.Size (words text.now) result }
+    ensures { Answers Keyword.Size text.now (words text.now) result }
 {
     match one_word(text) {
         Some(name) => {
@@ -332,7 +332,7 @@ fn read_size(text: &[u8]) -> Result<Statement<'_>, ScriptFault>
 
 /// `stats`
 fn read_stats(text: &[u8]) -> Result<Statement<'_>, ScriptFault>
-    ensures { Answers Keyword.Stats (words text.now) result }
+    ensures { Answers Keyword.Stats text.now (words text.now) result }
 {
     match next_word(text) {
         Some(_) => Err(ScriptFault::Malformed),

@@ -2,7 +2,7 @@
 
 ghost use Rattle.std.specs.Prelude.{◌≡◌, ◌<◌, ◌≤◌, ◌==◌, false, not, true, List, [], ◌∷◌, length, take, drop, get_or, position, IfSome, IfNone, ◌||◌, ℕ};
 ghost use Rattle.std.specs.List.{list_all};
-ghost use Rattle.cf_reference.specs.Words.{before_comment as before_comment_of, words, is_blank as is_blank_byte, is_sign as is_sign_byte, runs as runs_byte, begins_name as begins_name_byte, continues_name as continues_name_byte, is_name as is_name_word, is_bits as is_bits_word};
+ghost use Rattle.cf_reference.specs.Words.{before_comment as before_comment_of, words, is_blank as is_blank_byte, is_sign as is_sign_byte, runs as runs_byte, begins_name as begins_name_byte, continues_name as continues_name_byte, is_name as is_name_word, is_bits as is_bits_word, behind_word};
 
 use memchr::memchr;
 
@@ -28,15 +28,21 @@ fn is_sign(b: u8) -> bool
     b == b'(' || (b == b')' || (b == b',' || b == b'='))
 }
 
+/// Whether a byte is one of a run. Above the comma only the equals sign is none.
 fn runs(b: u8) -> bool
     ensures { result ≡ runs_byte b }
 {
-    !(is_blank(b) || is_sign(b))
+    if b > b',' {
+        b != b'='
+    } else {
+        !(is_blank(b) || is_sign(b))
+    }
 }
 
 /// The first word of a text, and the text behind it.
 pub(crate) fn next_word(text: &[u8]) -> Option<(&[u8], &[u8])>
     ensures found { IfSome result (λ r. words text.now ≡ r.0.now ∷ words r.1.now) }
+    ensures behind { IfSome result (λ r. behind_word text.now ≡ r.1.now) }
     ensures none { IfNone result (words text.now ≡ []) }
     ensures shorter { IfSome result (λ r. length r.1.now < length text.now) }
 {
@@ -47,6 +53,7 @@ pub(crate) fn next_word(text: &[u8]) -> Option<(&[u8], &[u8])>
 /// The text from its first byte that is no blank.
 fn skip_blanks(text: &[u8]) -> Option<&[u8]>
     ensures same { IfSome result (λ r. words text.now ≡ words r.now) }
+    ensures behind { IfSome result (λ r. behind_word text.now ≡ behind_word r.now) }
     ensures begins { IfSome result (λ r. is_blank_byte (get_or r.now 0 0) ≡ false) }
     ensures some { IfSome result (λ r. 0 < length r.now) }
     ensures shorter { IfSome result (λ r. length r.now ≤ length text.now) }
@@ -70,6 +77,7 @@ fn word_length(text: &[u8]) -> usize
     requires some { 0 < length text.now }
     requires begins { is_blank_byte (get_or text.now 0 0) ≡ false }
     ensures word { words text.now ≡ take result text.now ∷ words (drop result text.now) }
+    ensures behind { behind_word text.now ≡ drop result text.now }
     ensures some { 0 < result }
     ensures within { result ≤ length text.now }
 {
@@ -120,10 +128,16 @@ fn begins_name(b: u8) -> bool
     b.is_ascii_alphabetic() || b == b'_'
 }
 
+/// Whether a byte can stand in a name behind its first one. Of those above the comma each below 127 can, but for the
+/// equals sign and the at sign.
 fn continues_name(b: u8) -> bool
     ensures { result ≡ continues_name_byte b }
 {
-    b.is_ascii_graphic() && !(is_sign(b) || (b == b'#' || b == b'@'))
+    if b > b',' {
+        b < 127 && b != b'=' && b != b'@'
+    } else {
+        b.is_ascii_graphic() && !(is_sign(b) || (b == b'#' || b == b'@'))
+    }
 }
 
 /// Whether a word is a name.

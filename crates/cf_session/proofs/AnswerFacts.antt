@@ -19,14 +19,14 @@ use Rattle.cf_model.proofs.AssignmentLaws.{length-all_bits, all_bits-place}
 use Rattle.cf_model.proofs.FlatFunctionLaws.{number_in}
 use Rattle.cf_pkg.specs.declared.Func.{Func}
 use Rattle.cf_pkg.specs.Packages.{Package, OwnsFunction, meaning}
-use Rattle.cf_reference.specs.Trees.{Statement, Value, First, Listed, Equal, Size, Stats}
+use Rattle.cf_reference.specs.Trees.{Statement}
 use Rattle.cf_reference.specs.Words.{is_bits}
 use Rattle.cf_reference.specs.Reasons.{OutOfRange, LevelsDiffer}
 use Rattle.cf_reference.specs.Replies.{value_reply, bits_reply, none_reply, equal_reply, different_reply, size_reply, stats_reply}
 use Rattle.cf_reference.specs.States.{named, at, level_in}
 use Rattle.cf_reference.specs.Answers.{spelled, first_answer, list_reply, equal_answer, functions_in}
 use Rattle.cf_reference.specs.Answers as answers
-use Rattle.cf_reference.specs.Carrying.{Refuses, Goes, lists, step}
+use Rattle.cf_reference.specs.Carrying.{Refuses, Goes, lists, tell_value, tell_first, tell_list, tell_equal, tell_size, tell_stats, step}
 use Rattle.cf_reference.proofs.AnswerLaws.{first_answer-some, first_answer-none, equal_answer-different, equal_answer-equal}
 use Rattle.cf_reference.proofs.FailureLaws.{least-same}
 use Rattle.cf_reference.proofs.StepLaws.{Asks, step-NoName, step-Value, step-Value-bits, step-First, step-Listed, step-Listed-most, step-Equal, step-Equal-levels, step-Equal-NoName, step-Size, step-Stats}
@@ -40,10 +40,10 @@ use Rattle.cf_session.proofs.StatementFacts.{some-is, count-names}
 
 -- a statement about a name that stands for nothing
 pub unknown-refused : (h : Held) (t : Statement) (name : List ℕ) (r : Refusal) → IsSome h.level → Asks t name
-    → IsUnknown h name r → step (state_of h) t ≡ Refuses (reason_of r)
+    → IsUnknown h name r → step [] (state_of h) t ≡ Refuses (reason_of r)
 unknown-refused h t name r set asks u =
     let some = some-is h.level set in
-    step-NoName (state_of h) some.0 t name some.1 asks u.nothing ∙ ap (λ q. Refuses (reason_of q)) (sym u.refused)
+    step-NoName [] (state_of h) some.0 t name some.1 asks u.nothing ∙ ap (λ q. Refuses (reason_of q)) (sym u.refused)
 
 pub if-none : {A : Type 0} (o : Option A) {P : Type 0} → P → IfNone o P
 if-none None p = p
@@ -71,14 +71,14 @@ flat-fits f b v flat e =
 -- `value`
 pub value-goes : (h : Held) (name text : List ℕ) (f : Func) (b : Assignment) (v : ℤ) → IsSome h.level → IsNamed h name f
     → bits b ≡ spelled text → length text ≡ 2 ^ f.head.level → value_at (meaning h.pkg f) (bits b) ≡ Some v
-    → step (state_of h) (Value name text) ≡ Goes (state_of h) (value_reply v)
+    → tell_value (state_of h) name text ≡ Goes (state_of h) (value_reply v)
 value-goes h name text f b v set n is full value =
     let some = some-is h.level set in
     step-Value (state_of h) some.0 name text (meaning h.pkg f) some.1 n.means full
     ∙ ap (λ (w : ℤ). Goes (state_of h) (value_reply w)) (ap (at (meaning h.pkg f)) (sym is) ∙ ap (λ o. unwrap_or o (pos 0)) value)
 
 pub value-bits : (h : Held) (name text : List ℕ) (f : Func) → IsSome h.level → IsNamed h name f
-    → length text ≢ 2 ^ f.head.level → step (state_of h) (Value name text) ≡ Refuses OutOfRange
+    → length text ≢ 2 ^ f.head.level → tell_value (state_of h) name text ≡ Refuses OutOfRange
 value-bits h name text f set n other =
     let some = some-is h.level set in step-Value-bits (state_of h) some.0 name text (meaning h.pkg f) some.1 n.means other
 
@@ -111,7 +111,7 @@ text-long text level h low e full =
 -- `first`
 pub first-goes : (h : Held) (name : List ℕ) (v : ℤ) (f : Func) (b : List Bool) → IsSome h.level → IsNamed h name f
     → IsLeast f.head.level (λ a. value_at (meaning h.pkg f) a ≡ Some v) b
-    → step (state_of h) (First name v) ≡ Goes (state_of h) (bits_reply b)
+    → tell_first (state_of h) name v ≡ Goes (state_of h) (bits_reply b)
 first-goes h name v f b set n least =
     let some = some-is h.level set in
     step-First (state_of h) some.0 name v (meaning h.pkg f) some.1 n.means
@@ -119,7 +119,7 @@ first-goes h name v f b set n least =
 
 pub first-none : (h : Held) (name : List ℕ) (v : ℤ) (f : Func) → IsSome h.level → IsNamed h name f
     → ((a : List Bool) → IsAssignment f.head.level a → value_at (meaning h.pkg f) a ≡ Some v → ⊥)
-    → step (state_of h) (First name v) ≡ Goes (state_of h) none_reply
+    → tell_first (state_of h) name v ≡ Goes (state_of h) none_reply
 first-none h name v f set n never =
     let some = some-is h.level set in
     step-First (state_of h) some.0 name v (meaning h.pkg f) some.1 n.means
@@ -146,20 +146,20 @@ same-assignments f v flat =
 
 pub listed-goes : (h : Held) (name : List ℕ) (v most : ℤ) (f : Func) (found : List (List Bool)) → IsSome h.level
     → IsNamed h name f → lists most ≡ true → found ≡ take (nat_abs most) (assignments_of (meaning h.pkg f) v)
-    → step (state_of h) (Listed name v most) ≡ Goes (state_of h) (list_reply found)
+    → tell_list (state_of h) name v most ≡ Goes (state_of h) (list_reply found)
 listed-goes h name v most f found set n fits is =
     let some = some-is h.level set in
     step-Listed (state_of h) some.0 name v most (meaning h.pkg f) some.1 n.means fits
     ∙ ap (λ found. Goes (state_of h) (list_reply found)) (sym (is ∙ ap (take (nat_abs most)) (same-assignments (meaning h.pkg f) v n.flat)))
 
 pub listed-most : (h : Held) (name : List ℕ) (v most : ℤ) (f : Func) → IsSome h.level → IsNamed h name f
-    → lists most ≡ false → step (state_of h) (Listed name v most) ≡ Refuses OutOfRange
+    → lists most ≡ false → tell_list (state_of h) name v most ≡ Refuses OutOfRange
 listed-most h name v most f set n past =
     let some = some-is h.level set in step-Listed-most (state_of h) some.0 name v most (meaning h.pkg f) some.1 n.means past
 
 -- `equal`
 pub unknown-equal : (h : Held) (name other : List ℕ) (r : Refusal) → IsSome h.level → IsUnknown h name r ⊎ IsUnknown h other r
-    → step (state_of h) (Equal name other) ≡ Refuses (reason_of r)
+    → tell_equal (state_of h) name other ≡ Refuses (reason_of r)
 unknown-equal h name other r set (inl u) =
     let some = some-is h.level set in
     step-Equal-NoName (state_of h) some.0 name other some.1 (inl u.nothing) ∙ ap (λ q. Refuses (reason_of q)) (sym u.refused)
@@ -168,14 +168,14 @@ unknown-equal h name other r set (inr u) =
     step-Equal-NoName (state_of h) some.0 name other some.1 (inr u.nothing) ∙ ap (λ q. Refuses (reason_of q)) (sym u.refused)
 
 pub equal-levels : (h : Held) (name other : List ℕ) (f g : Func) → IsSome h.level → IsNamed h name f → IsNamed h other g
-    → f.head.level ≢ g.head.level → step (state_of h) (Equal name other) ≡ Refuses LevelsDiffer
+    → f.head.level ≢ g.head.level → tell_equal (state_of h) name other ≡ Refuses LevelsDiffer
 equal-levels h name other f g set m n apart =
     let some = some-is h.level set in
     step-Equal-levels (state_of h) some.0 name other (meaning h.pkg f) (meaning h.pkg g) some.1 m.means n.means apart
 
 pub equal-goes : (h : Held) (name other : List ℕ) (f g : Func) (t : List ℕ) → IsSome h.level → IsNamed h name f
     → IsNamed h other g → f.head.level ≡ g.head.level → t ≡ equal_answer (meaning h.pkg f) (meaning h.pkg g)
-    → step (state_of h) (Equal name other) ≡ Goes (state_of h) t
+    → tell_equal (state_of h) name other ≡ Goes (state_of h) t
 equal-goes h name other f g t set m n same is =
     let some = some-is h.level set in
     step-Equal (state_of h) some.0 name other (meaning h.pkg f) (meaning h.pkg g) some.1 m.means n.means same
@@ -202,7 +202,7 @@ equal-everywhere f g agree = sym (equal_answer-equal f g (λ a h. ap (λ o. unwr
 -- `size`
 pub size-goes : (h : Held) (name : List ℕ) (f : Func) (counts : List ℕ) (n : ℕ) → IsSome h.level → IsNamed h name f
     → counts ≡ sizes (pattern_of (meaning h.pkg f) ∷ []) → n ≡ length (distinct int_eq (meaning h.pkg f).values)
-    → step (state_of h) (Size name) ≡ Goes (state_of h) (size_reply (take (f.head.level + 1) counts) n)
+    → tell_size (state_of h) name ≡ Goes (state_of h) (size_reply (take (f.head.level + 1) counts) n)
 size-goes h name f counts n set named counted exits =
     let some = some-is h.level set in
     step-Size (state_of h) some.0 name (meaning h.pkg f) some.1 named.means
@@ -257,7 +257,7 @@ map_twice p (f ∷ fs) = ap (λ ps. pattern_of (meaning p f) ∷ ps) (map_twice 
 pub stats-goes : (h : Held) (all : List Func) (counts : List ℕ) → IsHeld h → IsSome h.level
     → all ≡ map (λ b. b.1) h.variables ++ map (λ b. b.1) h.functions
     → counts ≡ sizes (map (λ f. pattern_of (meaning h.pkg f)) all)
-    → step (state_of h) Stats ≡ Goes (state_of h) (stats_reply (length all) counts)
+    → tell_stats (state_of h) ≡ Goes (state_of h) (stats_reply (length all) counts)
 stats-goes h all counts holds set is counted =
     let some = some-is h.level set in
     let patterns = ap (map pattern_of) (ap (map (meaning h.pkg)) is ∙ functions-are h holds) in

@@ -11,7 +11,7 @@ use Rattle.cf_reference.specs.Trees.{Tree, Call, Arguments, none, more, atom, At
 use Rattle.cf_reference.specs.States.{State}
 use Rattle.cf_reference.specs.Calls.{Part, flat, Meant, Function, Position, Number, is_nested, call, call_refusal}
 use Rattle.cf_reference.specs.Expressions.{part, meant, meant_atom, walk, walks, walk_atom}
-use Rattle.cf_reference.specs.Failures.{failure, first_failure, nested, over, over_arguments}
+use Rattle.cf_reference.specs.Failures.{failure, first_failure, fold_step, over, over_arguments}
 use Rattle.cf_reference.specs.Gives.{Gives, GivesTree}
 use Rattle.cf_reference.proofs.ExpressionLaws.{part-Call, meant-none, meant-more, meant-atom}
 use Rattle.cf_reference.proofs.FailureLaws.{over-Call, over_arguments-none, over_arguments-more, over_arguments-atom}
@@ -83,7 +83,7 @@ owned-push : (p : Package) (args : List Value) (v : Value) → AreOwned p args �
 owned-push p [] v h k = (k, tt)
 owned-push p (w ∷ args) v h k = (h.0, owned-push p args v h.1 k)
 
-unnested : (head : Head) (done : List Meant) → is_nested head ≡ false → first_failure (nested head done) ≡ None
+unnested : (head : Head) (done : List Meant) → is_nested head ≡ false → first_failure (fold_step head done) ≡ None
 unnested head done e =
     ap (λ b. first_failure (cond (b && nat_le 2 (length done)) (call head done ∷ []) [])) e
 
@@ -112,7 +112,7 @@ gathered-function s head all p args now place e f one h is b pushed =
     stepped s head all p args now place (value.Function f) h pushed (b.owned, b.gives.flat)
     (ap (meant s) is ∙ meant-more s e later ∙ ap (λ g. Function g ∷ meant s later) same)
     (ap (over_arguments s head (meanings p args)) is ∙ over_arguments-more s head (meanings p args) e later
-    ∙ or_second (first_failure (nested head (meanings p args))) _ _ (unnested head (meanings p args) one)
+    ∙ or_second (first_failure (fold_step head (meanings p args))) _ _ (unnested head (meanings p args) one)
     (or_second (over s e) _ _ b.fits (ap (λ g. over_arguments s head (meanings p args ++ Function g ∷ []) later) same)))
     (walks-later s e later (sym (ap (walks s) is) ∙ h.walked))
     (subst (AreFormed head place) is h.formed).2
@@ -124,7 +124,7 @@ gathered-atom s head all p args now place a v one h is owned same pushed =
     stepped s head all p args now place v h pushed owned
     (ap (meant s) is ∙ meant-atom s a later ∙ ap (λ m. m ∷ meant s later) same)
     (ap (over_arguments s head (meanings p args)) is ∙ over_arguments-atom s head (meanings p args) a later
-    ∙ or_second (first_failure (nested head (meanings p args))) _ _ (unnested head (meanings p args) one)
+    ∙ or_second (first_failure (fold_step head (meanings p args))) _ _ (unnested head (meanings p args) one)
     (ap (λ m. over_arguments s head (meanings p args ++ m ∷ []) later) same))
     (walks-later-atom s a later (sym (ap (walks s) is) ∙ h.walked))
     (subst (AreFormed head place) is h.formed).1
@@ -167,7 +167,7 @@ next-fails s head all p args place e one h is =
     fault_turned (λ bits. over s e ≡ Some bits) (λ bits. over s (Call head all) ≡ Some bits)
     (λ bits o. over-Call s head all ∙ or_first (over_arguments s head [] all) (failure (part s (Call head all))) bits
     (h.overflow ∙ ap (over_arguments s head (meanings p args)) is ∙ over_arguments-more s head (meanings p args) e (from_place (suc place) all)
-    ∙ or_second (first_failure (nested head (meanings p args))) _ (Some bits) (unnested head (meanings p args) one) (or_first (over s e) _ bits o)))
+    ∙ or_second (first_failure (fold_step head (meanings p args))) _ (Some bits) (unnested head (meanings p args) one) (or_first (over s e) _ bits o)))
 
 -- no argument is left
 pub gathered-all : (s : State) (head : Head) (all : Arguments) (p : Package) (args : List Value) (place : ℕ) → Gathered s head all p args place → place ≡ count all

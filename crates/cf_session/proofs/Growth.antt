@@ -1,16 +1,16 @@
 -- A session whose package grows.
-use Rattle.std.proofs.Common.{ℕ, ◌≡◌, ◌≤◌, List, [], ◌∷◌, map, refl, ap, subst, ◌∙◌}
+use Rattle.std.proofs.Common.{ℕ, ◌≡◌, ◌≤◌, List, [], ◌∷◌, ◌++◌, map, refl, ap, subst, ◌∙◌}
 use Rattle.std.specs.Prelude.{All}
 use Rattle.std.proofs.lemmas.List.Elements.{All-cons, All-head, All-tail, All-nil}
 use Rattle.cf_model.specs.FlatFunctions.{FlatFunction, IsFlatFunction, variable}
 use Rattle.cf_model.specs.Diagrams.{IsGood}
 use Rattle.cf_model.specs.Functions.{IsFunction}
 use Rattle.cf_model.proofs.FunctionLaws.{function_flat}
-use Rattle.cf_reference.specs.States.{level_in}
+use Rattle.cf_reference.specs.States.{level_in, repeats}
 use Rattle.cf_pkg.specs.declared.Func.{Func}
 use Rattle.cf_pkg.specs.Packages.{Package, OwnsFunction, Means, Keeps, meaning, values_of}
 use Rattle.cf_pkg.proofs.Valued.{Keeps-same, Keeps-trans}
-use Rattle.cf_session.specs.Sessions.{Held, Names, IsHeld, state_of}
+use Rattle.cf_session.specs.Sessions.{Held, Names, names_of, IsHeld, state_of}
 use Rattle.cf_session.specs.Building.{Grows}
 
 -- the session with another package
@@ -47,6 +47,9 @@ held h q holds k = record {
   room = holds.room;
   positions = λ i b e. means_kept h.pkg q b.1 (variable (level_in (state_of h)) i) k (holds.positions i b e);
   owned = all_owned h.pkg q h.functions holds.owned k;
+  differ =
+      ap (λ (bs : List (List ℕ × FlatFunction)). repeats (names_of h.variables ++ map (λ b. b.0) bs)) (same_bindings h.pkg q h.functions holds.owned k)
+      ∙ holds.differ;
 }
 
 pub grown : (h : Held) (q : Package) → IsHeld h → Keeps h.pkg q → Grows h (with_package h q)

@@ -20,7 +20,7 @@ use Rattle.cf_reference.specs.Reasons.{LevelsDiffer, BadLevel, OutOfRange, unles
 use Rattle.cf_reference.specs.States.{State, at}
 use Rattle.cf_reference.specs.Calls.{Part, flat, Meant, Function, levels, exact, call, call_refusal, is_nested}
 use Rattle.cf_reference.specs.Expressions.{part, level, meant, walk, walks}
-use Rattle.cf_reference.specs.Failures.{failure, first_failure, nested, over, over_arguments}
+use Rattle.cf_reference.specs.Failures.{failure, first_failure, fold_step, over, over_arguments}
 use Rattle.cf_reference.specs.Gives.{Gives, GivesTree}
 use Rattle.cf_reference.proofs.ExpressionLaws.{part-Call, meant-none, meant-more}
 use Rattle.cf_reference.proofs.FailureLaws.{failure-same, over-Call, over_arguments-none, over_arguments-more, over_arguments-atom}
@@ -131,14 +131,14 @@ pub record Nesting (s : State) (head : Head) (all : Arguments) (p : Package) (f 
   pub formed : AreFormed head place left
 
 -- no nested call overflows where the one of the arguments so far has a function
-never-nested : (head : Head) (done : List Meant) (f : FlatFunction) → Gives (call head done) f → first_failure (nested head done) ≡ None
+never-nested : (head : Head) (done : List Meant) (f : FlatFunction) → Gives (call head done) f → first_failure (fold_step head done) ≡ None
 never-nested head done f g = by (is_nested head && nat_le 2 (length done))
   where
     by : (b : Bool) → first_failure (cond b (call head done ∷ []) []) ≡ None
     by true = or_nones (failure (call head done)) None (gives-never (call head done) f g) refl
     by false = refl
 
-none_nested : (head : Head) → first_failure (nested head []) ≡ None
+none_nested : (head : Head) → first_failure (fold_step head []) ≡ None
 none_nested head = by (is_nested head)
   where
     by : (b : Bool) → first_failure (cond (b && false) (call head [] ∷ []) []) ≡ None
@@ -163,7 +163,7 @@ nesting_begins s head e es p f n formed walked b =
       overflow = over-Call s head (more e es)
           ∙ ap (λ o. option_or o (failure (part s (Call head (more e es)))))
           (over_arguments-more s head [] e es
-          ∙ or_second (first_failure (nested head [])) _ _ (none_nested head) (or_second (over s e) _ _ b.fits (ap (λ x. over_arguments s head (Function x ∷ []) es) same)));
+          ∙ or_second (first_failure (fold_step head [])) _ _ (none_nested head) (or_second (over s e) _ _ b.fits (ap (λ x. over_arguments s head (Function x ∷ []) es) same)));
       is_meant = is;
       walked = walks-later s e es (walk-Call-arguments s head (more e es) walked);
       equal = rules.equal;
@@ -229,7 +229,7 @@ next_over s head all p f g e es h b =
     h.overflow
     ∙ ap (λ o. option_or o (failure (part s (Call head all))))
     (over_arguments-more s head done e es
-    ∙ or_second (first_failure (nested head done)) _ _ (never-nested head done (meaning p f) h.gives)
+    ∙ or_second (first_failure (fold_step head done)) _ _ (never-nested head done (meaning p f) h.gives)
     (or_second (over s e) _ _ b.fits (ap (λ y. over_arguments s head (done ++ Function y ∷ []) es) (sym (gives-let s e (meaning p g) b.gives)))))
 
 -- one argument more
@@ -266,11 +266,11 @@ next_fails s head all p f e es h =
     (λ bits o. h.overflow
     ∙ or_first (over_arguments s head done (more e es)) (failure (part s (Call head all))) bits
     (over_arguments-more s head done e es
-    ∙ or_second (first_failure (nested head done)) _ (Some bits) (never-nested head done (meaning p f) h.gives) (or_first (over s e) _ bits o)))
+    ∙ or_second (first_failure (fold_step head done)) _ (Some bits) (never-nested head done (meaning p f) h.gives) (or_first (over s e) _ bits o)))
 
 -- the nested call of two arguments or more is there
 done_nested : (head : Head) (a b : Meant) (others : List Meant) (bits : List Bool) → is_nested head ≡ true → failure (call head (a ∷ b ∷ others)) ≡ Some bits
-    → first_failure (nested head (a ∷ b ∷ others)) ≡ Some bits
+    → first_failure (fold_step head (a ∷ b ∷ others)) ≡ Some bits
 done_nested head a b others bits n fails =
     ap (λ t. first_failure (cond (t && nat_le 2 (length (a ∷ b ∷ others))) (call head (a ∷ b ∷ others) ∷ []) [])) n
     ∙ ap (λ t. first_failure (cond t (call head (a ∷ b ∷ others) ∷ []) [])) (is_le 2 (length (a ∷ b ∷ others)) (omega arith))
@@ -284,10 +284,10 @@ over_done s head all a b others none bits n is fails =
     (ap failure (part-Call s head all ∙ ap (call head) (is ∙ ap (λ l. (a ∷ b ∷ others) ++ l) (meant-none s) ∙ append-none (a ∷ b ∷ others))) ∙ fails)
 over_done s head all a b others (more e es) bits n is fails =
     or_first (over_arguments s head (a ∷ b ∷ others) (more e es)) _ bits
-    (over_arguments-more s head (a ∷ b ∷ others) e es ∙ or_first (first_failure (nested head (a ∷ b ∷ others))) _ bits (done_nested head a b others bits n fails))
+    (over_arguments-more s head (a ∷ b ∷ others) e es ∙ or_first (first_failure (fold_step head (a ∷ b ∷ others))) _ bits (done_nested head a b others bits n fails))
 over_done s head all a b others (atom x es) bits n is fails =
     or_first (over_arguments s head (a ∷ b ∷ others) (atom x es)) _ bits
-    (over_arguments-atom s head (a ∷ b ∷ others) x es ∙ or_first (first_failure (nested head (a ∷ b ∷ others))) _ bits (done_nested head a b others bits n fails))
+    (over_arguments-atom s head (a ∷ b ∷ others) x es ∙ or_first (first_failure (fold_step head (a ∷ b ∷ others))) _ bits (done_nested head a b others bits n fails))
 
 -- the second of a list that has one at its end
 two_of : (others : List Meant) (m : Meant) → (b : Meant) × (later : List Meant) × (others ++ m ∷ [] ≡ b ∷ later)
@@ -319,7 +319,7 @@ first_fails s head e es =
     fault_turned (λ bits. over s e ≡ Some bits) (λ bits. over s (Call head (more e es)) ≡ Some bits)
     (λ bits o. over-Call s head (more e es)
     ∙ or_first (over_arguments s head [] (more e es)) _ bits
-    (over_arguments-more s head [] e es ∙ or_second (first_failure (nested head [])) _ (Some bits) (none_nested head) (or_first (over s e) _ bits o)))
+    (over_arguments-more s head [] e es ∙ or_second (first_failure (fold_step head [])) _ (Some bits) (none_nested head) (or_first (over s e) _ bits o)))
 
 -- no argument is left
 pub nesting_ends : (s : State) (head : Head) (all : Arguments) (p : Package) (f : Func) → Nesting s head all p f none

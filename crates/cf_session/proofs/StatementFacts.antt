@@ -18,18 +18,18 @@ use Rattle.cf_model.proofs.CanonLaws.{get_left, get_last}
 use Rattle.cf_pkg.specs.declared.Func.{Func}
 use Rattle.cf_pkg.specs.Packages.{Package, OwnsFunction, Means, Keeps, meaning}
 use Rattle.cf_pkg.proofs.Valued.{Keeps-same, Keeps-trans}
-use Rattle.cf_reference.specs.Trees.{Level, Vars}
 use Rattle.cf_reference.specs.Reasons.{LevelAgain, BadLevel, Taken, TooManyVariables}
-use Rattle.cf_reference.specs.States.{State, level_in, is_below, is_among, is_bound, position_of, function_named, named, repeats}
+use Rattle.cf_reference.specs.States.{State, level_in, is_below, is_among, is_bound, position_of, function_named, named, repeats, names_in}
 use Rattle.cf_reference.specs.States as states
-use Rattle.cf_reference.specs.Carrying.{Refuses, Goes, clashes, have_room, step}
+use Rattle.cf_reference.specs.Carrying.{Refuses, Goes, clashes, have_room, set_level, declare}
+use Rattle.cf_reference.proofs.NameLaws.{differ-let, differ-vars}
 use Rattle.cf_reference.proofs.StepLaws.{step-Level, step-Level-bad, step-Level-again, step-Vars, step-Vars-taken, step-Vars-many}
 use Rattle.cf_session.specs.Sessions.{Held, Names, names_of, IsHeld, state_of}
 use Rattle.cf_session.specs.Bindings.{bind}
 use Rattle.cf_session.specs.Statements.{bytes_of, ArePositions}
 use Rattle.cf_session.proofs.NameFacts.{flipped, length-push}
 use Rattle.cf_session.proofs.WalkFacts.{none-is}
-use Rattle.cf_session.proofs.Growth.{held, grown}
+use Rattle.cf_session.proofs.Growth.{with_package, held, grown}
 use Rattle.cf_session.proofs.ListFacts.{length-bytes, any-append, none-at, none-weaker, repeats-none}
 
 pub some-is : {A : Type 0} (o : Option A) → is_some o ≡ true → (x : A) × (o ≡ Some x)
@@ -37,15 +37,15 @@ some-is None e = absurd (false≢true e)
 some-is (Some x) e = (x, refl)
 
 -- `level`
-pub level-again : (h : Held) (n : ℤ) → is_some h.level ≡ true → step (state_of h) (Level n) ≡ Refuses LevelAgain
+pub level-again : (h : Held) (n : ℤ) → is_some h.level ≡ true → set_level (state_of h) n ≡ Refuses LevelAgain
 level-again h n e = let set = some-is h.level e in step-Level-again (state_of h) set.0 n set.1
 
 pub level-bad : (h : Held) (n : ℤ) → is_some h.level ≡ false → is_below n 8 ≡ false
-    → step (state_of h) (Level n) ≡ Refuses BadLevel
+    → set_level (state_of h) n ≡ Refuses BadLevel
 level-bad h n e high = step-Level-bad (state_of h) n (none-is h.level e) high
 
 pub level-goes : (h : Held) (n : ℤ) (l : ℕ) → is_some h.level ≡ false → is_below n 8 ≡ true → nat_abs n ≡ l
-    → step (state_of h) (Level n)
+    → set_level (state_of h) n
     ≡ Goes (state_of (record { pkg = h.pkg; level = Some l; variables = h.variables; functions = h.functions })) []
 level-goes h n l e fits is =
     step-Level (state_of h) n (none-is h.level e) fits
@@ -80,14 +80,18 @@ bind_flat p (b ∷ later) name f = by (bytes_eq name b.0) (bind_flat p later nam
     by false rest = ap (λ (bs : List (List ℕ × FlatFunction)). (b.0, meaning p b.1) ∷ bs) rest
 
 pub held-functions : (h : Held) (now : Names) (name : List ℕ) (f : Func) → IsHeld h → IsSome h.level
-    → OwnsFunction h.pkg f → now ≡ bind h.functions name f
+    → OwnsFunction h.pkg f → is_among (names_of h.variables) name ≡ false → now ≡ bind h.functions name f
     → IsHeld (record { pkg = h.pkg; level = h.level; variables = h.variables; functions = now })
-held-functions h now name f holds set owned is = record {
+held-functions h now name f holds set owned free is = record {
   low = holds.low;
   unset = λ e. absurd (let some = some-is h.level set in none-some some.0 (sym e ∙ some.1));
   room = holds.room;
   positions = holds.positions;
   owned = subst (λ fs. All (λ b. OwnsFunction h.pkg b.1) fs) (sym is) (bind_owned h.pkg h.functions name f holds.owned owned);
+  differ =
+      ap (λ bs. repeats (names_of h.variables ++ map (λ (b : List ℕ × FlatFunction). b.0) (map (λ b. (b.0, meaning h.pkg b.1)) bs))) is
+      ∙ ap (λ bs. repeats (names_of h.variables ++ map (λ (b : List ℕ × FlatFunction). b.0) bs)) (bind_flat h.pkg h.functions name f)
+      ∙ differ-let (state_of h) name (meaning h.pkg f) holds.differ free;
 }
 
 pub held-again : (h : Held) (now : Names) → IsHeld h → now ≡ h.functions
@@ -223,10 +227,10 @@ with_variables h q vs = record { pkg = q; level = h.level; variables = vs; funct
 
 pub held-variables : (h : Held) (q : Package) (vs : Names) (names : List (List ℕ)) → IsHeld h → IsSome h.level
     → HasAdded h.pkg q (level_in (state_of h)) h.variables vs names
-    → length h.variables + length names ≤ 2 ^ level_in (state_of h)
+    → length h.variables + length names ≤ 2 ^ level_in (state_of h) → clashes (state_of h) names ≡ false
     → IsHeld (with_variables h q vs)
 unfolding with_variables
-held-variables h q vs names holds set added room = record {
+held-variables h q vs names holds set added room clash = record {
   low = holds.low;
   unset = λ e. absurd (let some = some-is h.level set in none-some some.0 (sym e ∙ some.1));
   room =
@@ -235,11 +239,15 @@ held-variables h q vs names holds set added room = record {
       omega (arith, count, old, room);
   positions = added.positions;
   owned = (held h q holds added.kept).owned;
+  differ =
+      ap (λ ns. repeats (ns ++ map (λ (b : List ℕ × FlatFunction). b.0) (state_of (with_package h q)).functions)) added.names
+      ∙ ap (λ (s : State). repeats ((names_of h.variables ++ names) ++ map (λ b. b.0) s.functions)) (grown h q holds added.kept).state
+      ∙ differ-vars (state_of h) names holds.differ clash;
 }
 
 -- `var`
 pub vars-taken : (h : Held) (names : List (List ℕ)) (clash : Bool) → IsSome h.level → clash ≡ clashes (state_of h) names
-    → clash ≡ true → step (state_of h) (Vars names) ≡ Refuses Taken
+    → clash ≡ true → declare (state_of h) names ≡ Refuses Taken
 vars-taken h names clash set is e =
     let some = some-is h.level set in step-Vars-taken (state_of h) some.0 names some.1 (sym is ∙ e)
 
@@ -249,7 +257,7 @@ room_is h names = ap (λ n. nat_le (n + length names) (2 ^ level_in (state_of h)
 pub vars-many : (h : Held) (names : List (List ℕ)) (clash room : Bool) → IsSome h.level
     → clash ≡ clashes (state_of h) names → clash ≡ false
     → room ≡ nat_le (length h.variables + length names) (2 ^ level_in (state_of h)) → room ≡ false
-    → step (state_of h) (Vars names) ≡ Refuses TooManyVariables
+    → declare (state_of h) names ≡ Refuses TooManyVariables
 vars-many h names clash room set is e fits no_room =
     let some = some-is h.level set in
     step-Vars-many (state_of h) some.0 names some.1 (sym is ∙ e) (room_is h names ∙ sym fits ∙ no_room)
@@ -288,11 +296,11 @@ pub declared-held : (h : Held) (q : Package) (vs : Names) (names : List (List �
     → HasAdded h.pkg q (level_in (state_of h)) h.variables vs names
     → IsHeld (record { pkg = q; level = h.level; variables = vs; functions = h.functions })
 unfolding with_variables
-declared-held h q vs names holds can added = held-variables h q vs names holds can.set added (can-room h names can)
+declared-held h q vs names holds can added = held-variables h q vs names holds can.set added (can-room h names can) can.clash
 
 pub declared-goes : (h : Held) (q : Package) (vs : Names) (names : List (List ℕ)) → IsHeld h → CanDeclare h names
     → HasAdded h.pkg q (level_in (state_of h)) h.variables vs names
-    → step (state_of h) (Vars names)
+    → declare (state_of h) names
     ≡ Goes (state_of (record { pkg = q; level = h.level; variables = vs; functions = h.functions })) []
 declared-goes h q vs names holds can added =
     let some = some-is h.level can.set in

@@ -10,13 +10,13 @@ use Rattle.std.proofs.lemmas.List.{take-append-drop, append_assoc, append-nil}
 use Rattle.cf_io.specs.Causes.{Rose}
 use Rattle.cf_reference.specs.Trees.{Tree, Statement, Empty, Level, Vars, Let, Value, First, Listed, Equal, Size, Stats}
 use Rattle.cf_reference.specs.Reasons.{Taken, NoLevel, Overflow, unless}
-use Rattle.cf_reference.specs.States.{State, is_among}
+use Rattle.cf_reference.specs.States.{State, Files, is_among}
 use Rattle.cf_reference.specs.States as states
 use Rattle.cf_reference.specs.Expressions.{walk}
 use Rattle.cf_reference.specs.Failures.{over}
-use Rattle.cf_reference.specs.Carrying.{Refuses, Goes, refusal_within, function_from, step}
+use Rattle.cf_reference.specs.Carrying.{Refuses, Goes, function_from, define, step}
 use Rattle.cf_reference.specs.Scripts.{refuses}
-use Rattle.cf_reference.proofs.StepLaws.{refused-within, goes-within, step-Let-taken, step-Empty, step-without, WantsLevel}
+use Rattle.cf_reference.proofs.StepLaws.{step-Let-fails, step-Let-whole, step-Let-taken, step-without, WantsLevel}
 use Rattle.cf_session.specs.declared.faults.Refusal.TheVariants as refusal
 use Rattle.cf_session.specs.declared.faults.StepFault.{StepFault}
 use Rattle.cf_session.proofs.WalkFacts.{none-is}
@@ -175,34 +175,33 @@ all-listed before now after all left count text false h none is f =
     }
 
 -- what is said of a fault of building an expression, as one of the statement
-let_within : (s : State) (k : ℕ) (name : List ℕ) (e : Tree) → s.level ≡ Some k → is_among s.variables name ≡ false
-    → refusal_within s (Let name e) ≡ building.refusal_of s e
-let_within s k name e set free =
-    ap (λ b. option_or (unless (not b) Taken) (option_or (walk s e) (option_map Overflow (over s e)))) free
-    ∙ sym (ap (λ (o : Option ℕ). option_or (unless (is_some o) NoLevel) (option_or (walk s e) (option_map Overflow (over s e)))) set)
+build_within : (s : State) (k : ℕ) (e : Tree) → s.level ≡ Some k
+    → building.refusal_of s e ≡ option_or (walk s e) (option_map Overflow (over s e))
+build_within s k e set =
+    ap (λ (o : Option ℕ). option_or (unless (is_some o) NoLevel) (option_or (walk s e) (option_map Overflow (over s e)))) set
 
 pub let-fault : (h : Held) (name : List ℕ) (e : Tree) (fault : StepFault) → IsSome h.level
     → is_among (state_of h).variables name ≡ false → building.IsFaultOfBuild (state_of h) e fault
-    → IsFaultOfStep (state_of h) (Let name e) fault
+    → IsFaultOfStep (define (state_of h) name e) fault
 let-fault h name e NoMemory set free f = tt
 let-fault h name e (Refused r) set free f =
     let some = some-is h.level set in
-    refused-within (state_of h) some.0 (Let name e) (reason_of r) some.1 (let_within (state_of h) some.0 name e some.1 free ∙ f)
+    step-Let-fails (state_of h) some.0 name e (reason_of r) some.1 free (sym (build_within (state_of h) some.0 e some.1) ∙ f)
 
 pub let-taken : (h : Held) (name : List ℕ) (e : Tree) → IsSome h.level → is_among (state_of h).variables name ≡ true
-    → step (state_of h) (Let name e) ≡ Refuses Taken
+    → define (state_of h) name e ≡ Refuses Taken
 let-taken h name e set taken = let some = some-is h.level set in step-Let-taken (state_of h) some.0 name e some.1 taken
 
 pub let-goes : (h m n : Held) (name : List ℕ) (e : Tree) (f : Func) → IsSome h.level
     → is_among (state_of h).variables name ≡ false → building.refusal_of (state_of h) e ≡ None
     → meaning m.pkg f ≡ function_from (state_of h) e → Grows h m → n.level ≡ m.level → n.variables ≡ m.variables
     → (state_of n).functions ≡ states.bind (state_of m).functions name (meaning m.pkg f)
-    → step (state_of h) (Let name e) ≡ Goes (state_of n) []
+    → define (state_of h) name e ≡ Goes (state_of n) []
 let-goes h m n name e f set free none means grows level variables functions =
     let some = some-is h.level set in
     let same : (state_of n).functions ≡ states.bind (state_of h).functions name (function_from (state_of h) e)
     = functions ∙ ap (λ (t : State). states.bind t.functions name (meaning m.pkg f)) grows.state ∙ ap (states.bind (state_of h).functions name) means in
-    goes-within (state_of h) some.0 (Let name e) some.1 (let_within (state_of h) some.0 name e some.1 free ∙ none)
+    step-Let-whole (state_of h) some.0 name e some.1 free (sym (build_within (state_of h) some.0 e some.1) ∙ none)
     ∙ ap (λ (fs : List (List ℕ × FlatFunction)). Goes (record { level = h.level; variables = names_of h.variables; functions = fs }) []) (sym same)
     ∙ ap (λ (vs : Names). Goes (record { level = h.level; variables = names_of vs; functions = (state_of n).functions }) []) (sym (variables ∙ grows.names.variables))
     ∙ ap (λ (l : Option ℕ). Goes (record { level = l; variables = names_of n.variables; functions = (state_of n).functions }) []) (sym (level ∙ grows.names.level))
@@ -212,9 +211,10 @@ nothing-wrote : (at : Sunk) → Wrote at at []
 nothing-wrote at = record { told = refl; later = omega arith; bytes = λ t. sym (append-nil at.written) }
 
 -- an empty line
-pub does-nothing : (h : Held) (t : Statement) (at : Sunk) → t ≡ Empty → Does (step (state_of h) t) h h at at stepped.Written
-does-nothing h t at is =
-    let e = ap (step (state_of h)) is ∙ step-Empty (state_of h) in
+pub does-nothing : (files : Files) (h : Held) (t : Statement) (at : Sunk) → t ≡ Empty
+    → Does (step files (state_of h) t) h h at at stepped.Written
+does-nothing files h t at is =
+    let e = ap (step files (state_of h)) is in
     (ap refuses e, e ∙ ap (Goes (state_of h)) (sym (ap reply_in e)), Keeps-same h.pkg, subst (λ text. Wrote at at text) (sym (ap reply_in e)) (nothing-wrote at))
 
 -- a statement that wants a level
@@ -230,12 +230,12 @@ wants (Equal name other) e = tt
 wants (Size name) e = tt
 wants Stats e = tt
 
-pub does-lack : (h : Held) (t : Statement) (at : Sunk) → lacks_level (state_of h) t ≡ true
-    → Does (step (state_of h) t) h h at at (stepped.Refused refusal.NoLevel)
-does-lack h t at e = by (is_some h.level) (wants_level t) refl refl e
+pub does-lack : (files : Files) (h : Held) (t : Statement) (at : Sunk) → lacks_level (state_of h) t ≡ true
+    → Does (step files (state_of h) t) h h at at (stepped.Refused refusal.NoLevel)
+does-lack files h t at e = by (is_some h.level) (wants_level t) refl refl e
   where
     by : (a b : Bool) → is_some h.level ≡ a → wants_level t ≡ b → not a && b ≡ true
-        → Does (step (state_of h) t) h h at at (stepped.Refused refusal.NoLevel)
+        → Does (step files (state_of h) t) h h at at (stepped.Refused refusal.NoLevel)
     by true b p q e = absurd (false≢true e)
     by false false p q e = absurd (false≢true e)
-    by false true p q e = (step-without (state_of h) t (none-is h.level p) (wants t q), grown_same h, refl)
+    by false true p q e = (step-without files (state_of h) t (none-is h.level p) (wants t q), grown_same h, refl)

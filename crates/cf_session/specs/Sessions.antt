@@ -1,6 +1,6 @@
-use Rattle.std.specs.Prelude.{◌≡◌, ◌↔◌, ◌≤◌, ◌^◌, ℕ, List, [], map, length, All, slice_get, Option, Some, None}
+use Rattle.std.specs.Prelude.{◌≡◌, ◌↔◌, ◌≤◌, ◌^◌, ℕ, List, [], map, length, All, slice_get, Option, Some, None, false}
 use Rattle.cf_model.specs.FlatFunctions.{variable}
-use Rattle.cf_reference.specs.States.{State, level_in, named}
+use Rattle.cf_reference.specs.States.{State, level_in, named, names_in, repeats}
 use Rattle.cf_pkg.specs.declared.Func.{Func}
 use Rattle.cf_pkg.specs.Packages.{Package, no_function, OwnsFunction, Means, meaning}
 
@@ -32,13 +32,15 @@ state_of h = record {
 }
 
 -- What holds of each session: the level is 0 to 7, there are names only once it is set, there are at most 2 ^ level
--- variables, the variable at position i is the function of bit i, and each function is the package's.
+-- variables, the variable at position i is the function of bit i, each function is the package's, and no name is bound
+-- twice.
 pub record IsHeld (h : Held) : Type 0 where
   pub low : level_in (state_of h) ≤ 7
   pub unset : h.level ≡ None → (h.variables ≡ []) × (h.functions ≡ [])
   pub room : length h.variables ≤ 2 ^ level_in (state_of h)
   pub positions : (i : ℕ) (b : List ℕ × Func) → slice_get h.variables i ≡ Some b → Means h.pkg b.1 (variable (level_in (state_of h)) i)
   pub owned : All (λ b. OwnsFunction h.pkg b.1) h.functions
+  pub differ : repeats (names_in (state_of h)) ≡ false
 
 -- A name that stands for a function of the package.
 pub record StandsFor (h : Held) (name : List ℕ) (f : Func) : Type 0 where

@@ -1,9 +1,8 @@
 use Rattle.std.specs.Prelude.{◌≡◌, ℕ, List, map, slice_get, Some, None}
 use Rattle.std.specs.Borrow.{Bor}
 use Rattle.cf_model.specs.FlatFunctions.{variable, IsFlatFunction}
-use Rattle.cf_reference.specs.Trees.{Statement}
-use Rattle.cf_reference.specs.States.{State, named}
-use Rattle.cf_reference.specs.Carrying.{Refuses, step}
+use Rattle.cf_reference.specs.States.{named}
+use Rattle.cf_reference.specs.Carrying.{Outcome, Refuses}
 use Rattle.cf_pkg.specs.declared.Func.{Func}
 use Rattle.cf_pkg.specs.Packages.{Package, OwnsFunction, Means, meaning}
 use Rattle.cf_session.specs.declared.faults.StepFault.{StepFault}
@@ -17,10 +16,10 @@ use Rattle.cf_session.specs.Sessions.{Names, Held, state_of}
 abbrev pub bytes_of : List (Bor (List ℕ)) → List (List ℕ)
 bytes_of names = map (λ name. name.now) names
 
--- There was no memory, or the statement is refused with this reason.
-abbrev pub IsFaultOfStep : State → Statement → StepFault → Type 0
-IsFaultOfStep s t NoMemory = Unit {0}
-IsFaultOfStep s t (Refused r) = step s t ≡ Refuses (reason_of r)
+-- There was no memory, or a statement with this outcome is refused with this reason.
+abbrev pub IsFaultOfStep : Outcome → StepFault → Type 0
+IsFaultOfStep outcome NoMemory = Unit {0}
+IsFaultOfStep outcome (Refused r) = outcome ≡ Refuses (reason_of r)
 
 -- The function of the name at each place is that of the bit at this position.
 abbrev pub ArePositions : Package → ℕ → Names → Type 0

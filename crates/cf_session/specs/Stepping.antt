@@ -106,23 +106,23 @@ wants_level others = true
 abbrev pub lacks_level : State → Statement → Bool
 lacks_level s t = not (is_some s.level) && wants_level t
 
--- What an answer came to: its text was written or a write failed, or there was no text, and nothing was written.
-abbrev pub Answers : Result (List ℕ) StepFault → Sunk → Sunk → Stepped → Type 0
-Answers (Ok text) before after stepped.Written = Wrote before after text
-Answers (Ok text) before after stepped.WriteFault = Failed before after text
-Answers (Ok text) before after other = ⊥
-Answers (Err NoMemory) before after stepped.NoMemory = after ≡ before
-Answers (Err NoMemory) before after other = ⊥
-Answers (Err (Refused r)) before after (stepped.Refused q) = (q ≡ r) × (after ≡ before)
-Answers (Err (Refused r)) before after other = ⊥
+-- What an answer came to: its text was written or a write failed, or there was none, and nothing was written.
+abbrev pub Answers : Result (Unit {0}) StepFault → List ℕ → Sunk → Sunk → Stepped → Type 0
+Answers (Ok made) text before after stepped.Written = Wrote before after text
+Answers (Ok made) text before after stepped.WriteFault = Failed before after text
+Answers (Ok made) text before after other = ⊥
+Answers (Err NoMemory) text before after stepped.NoMemory = after ≡ before
+Answers (Err NoMemory) text before after other = ⊥
+Answers (Err (Refused r)) text before after (stepped.Refused q) = (q ≡ r) × (after ≡ before)
+Answers (Err (Refused r)) text before after other = ⊥
 
 -- the same where memory isn't wanted
-abbrev pub AnswersAlways : Result (List ℕ) Refusal → Sunk → Sunk → Stepped → Type 0
-AnswersAlways (Ok text) before after stepped.Written = Wrote before after text
-AnswersAlways (Ok text) before after stepped.WriteFault = Failed before after text
-AnswersAlways (Ok text) before after other = ⊥
-AnswersAlways (Err r) before after (stepped.Refused q) = (q ≡ r) × (after ≡ before)
-AnswersAlways (Err r) before after other = ⊥
+abbrev pub AnswersAlways : Result (Unit {0}) Refusal → List ℕ → Sunk → Sunk → Stepped → Type 0
+AnswersAlways (Ok made) text before after stepped.Written = Wrote before after text
+AnswersAlways (Ok made) text before after stepped.WriteFault = Failed before after text
+AnswersAlways (Ok made) text before after other = ⊥
+AnswersAlways (Err r) text before after (stepped.Refused q) = (q ≡ r) × (after ≡ before)
+AnswersAlways (Err r) text before after other = ⊥
 
 -- the answer of a change of the session
 abbrev pub stepped_by : Result (Unit {0}) StepFault → Stepped

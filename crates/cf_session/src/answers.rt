@@ -1,15 +1,14 @@
 //! The statements that ask.
 
-ghost use Rattle.std.specs.Prelude.{◌≡◌, ◌≢◌, ◌^◌, ◌<◌, ◌≤◌, length, IfSome, IfNone, IsTrue, IsSome, IfOk, IfErr, Some};
+ghost use Rattle.std.specs.Prelude.{◌≡◌, ◌≢◌, ◌^◌, ◌<◌, ◌≤◌, length, IfSome, IfNone, IsTrue, IsSome, IfOk, IfErr, OnOk, Some};
 ghost use Rattle.cf_model.specs.Assignments.{bits};
 ghost use Rattle.cf_model.specs.FlatFunctions.{IsFlatFunction, value_at};
 ghost use Rattle.cf_pkg.specs.Packages.{OwnsFunction, Keeps, meaning};
 ghost use Rattle.cf_pkg.specs.Jobs.{AreLevel};
-ghost use Rattle.cf_reference.specs.Trees.{Value, First, Listed, Equal, Size, Stats};
 ghost use Rattle.cf_reference.specs.Words.{is_bits};
 ghost use Rattle.cf_reference.specs.States.{named};
 ghost use Rattle.cf_reference.specs.Answers.{spelled, equal_answer, list_reply};
-ghost use Rattle.cf_reference.specs.Carrying.{Refuses, Goes, lists, step};
+ghost use Rattle.cf_reference.specs.Carrying.{Refuses, Goes, lists, tell_value, tell_first, tell_list, tell_equal, tell_size, tell_stats};
 ghost use Rattle.cf_session.specs.Building.{Grows};
 ghost use Rattle.cf_session.specs.Faults.{reason_of};
 ghost use Rattle.cf_session.specs.Sessions.{state_of};
@@ -66,18 +65,19 @@ fn lists(most: i128) -> bool
     1 <= most && most <= 1000
 }
 
-/// The reply of whether two functions are equal.
-fn difference(pkg: &mut Pkg, f: Func, g: Func) -> Result<Text, NoMemory>
+/// Makes the text the reply of whether two functions are equal.
+fn difference(pkg: &mut Pkg, f: Func, g: Func, text: &mut Text) -> Result<(), NoMemory>
     requires level { AreLevel pkg.old f g }
     requires first { IsFlatFunction (meaning pkg.old f) }
     requires second { IsFlatFunction (meaning pkg.old g) }
-    ensures answer { IfOk result (λ t. t ≡ equal_answer (meaning pkg.old f) (meaning pkg.old g)) }
+    ensures answer { OnOk result (text.new ≡ equal_answer (meaning pkg.old f) (meaning pkg.old g)) }
     ensures kept { Keeps pkg.old pkg.new }
 {
     match separate(pkg, f, g)? {
-        Some(found) => Ok(different_text(found.0, found.1, found.2)),
-        None => Ok(equal_text()),
+        Some(found) => different_text(found.0, found.1, found.2, text),
+        None => equal_text(text),
     }
+    Ok(())
 }
 
 impl Session {
@@ -95,39 +95,46 @@ impl Session {
         }
     }
 
-    /// The value of a function at an assignment. It takes no memory.
-    pub(crate) fn value(&self, name: &[u8], text: &[u8]) -> Result<Text, Refusal>
+    /// Makes the text the value of a function at an assignment. It takes no memory.
+    pub(crate) fn value(&self, name: &[u8], bits: &[u8], text: &mut Text) -> Result<(), Refusal>
         requires set { IsSome self.now.level }
-        requires bits { IsTrue (is_bits text.now) }
-        ensures goes { IfOk result (λ t. step (state_of self.now) (Value name.now text.now) ≡ Goes (state_of self.now) t) }
-        ensures refused { IfErr result (λ r. step (state_of self.now) (Value name.now text.now) ≡ Refuses (reason_of r)) }
+        requires bits { IsTrue (is_bits bits.now) }
+        ensures goes { OnOk result (tell_value (state_of self.now) name.now bits.now ≡ Goes (state_of self.now) text.new) }
+        ensures refused { IfErr result (λ r. tell_value (state_of self.now) name.now bits.now ≡ Refuses (reason_of r)) }
     {
         let f = self.ask(name)?;
-        let Some(at) = assignment_of(f.head.level, text) else {
+        let Some(at) = assignment_of(f.head.level, bits) else {
             return Err(Refusal::OutOfRange);
         };
-        Ok(value_text(value_there::<Brand>(&self.pkg, f, at, Blank::new(1))))
+        value_text(value_there::<Brand>(&self.pkg, f, at, Blank::new(1)), text);
+        Ok(())
     }
 
-    /// The least assignment at which a function has a value. It takes no memory.
-    pub(crate) fn first(&self, name: &[u8], v: i128) -> Result<Text, Refusal>
+    /// Makes the text the least assignment at which a function has a value. It takes no memory.
+    pub(crate) fn first(&self, name: &[u8], v: i128, text: &mut Text) -> Result<(), Refusal>
         requires set { IsSome self.now.level }
-        ensures goes { IfOk result (λ t. step (state_of self.now) (First name.now v) ≡ Goes (state_of self.now) t) }
-        ensures refused { IfErr result (λ r. step (state_of self.now) (First name.now v) ≡ Refuses (reason_of r)) }
+        ensures goes { OnOk result (tell_first (state_of self.now) name.now v ≡ Goes (state_of self.now) text.new) }
+        ensures refused { IfErr result (λ r. tell_first (state_of self.now) name.now v ≡ Refuses (reason_of r)) }
     {
         let f = self.ask(name)?;
         match first_value(&self.pkg, f, v) {
-            Some(at) => Ok(bits_text(at)),
-            None => Ok(none_text()),
+            Some(at) => {
+                bits_text(at, text);
+                Ok(())
+            }
+            None => {
+                none_text(text);
+                Ok(())
+            }
         }
     }
 
     /// The first assignments at which a function has a value, which are as yet to be written.
     pub(crate) fn list(&self, name: &[u8], v: i128, most: i128) -> Result<Listing, StepFault>
         requires set { IsSome self.now.level }
-        ensures goes { IfOk result (λ l. step (state_of self.now) (Listed name.now v most) ≡ Goes (state_of self.now) (list_reply l)) }
+        ensures goes { IfOk result (λ l. tell_list (state_of self.now) name.now v most ≡ Goes (state_of self.now) (list_reply l)) }
         ensures short { IfOk result (λ l. length l ≤ 1000) }
-        ensures fault { IfErr result (IsFaultOfStep (state_of self.now) (Listed name.now v most)) }
+        ensures fault { IfErr result (IsFaultOfStep (tell_list (state_of self.now) name.now v most)) }
     {
         let f = self.ask(name)?;
         if !lists(most) {
@@ -136,11 +143,16 @@ impl Session {
         Ok(Listing::new(self.alloc, &self.pkg, f, v, most as u16)?)
     }
 
-    /// Whether two functions are equal, and where they differ first if they aren't.
-    pub(crate) fn equal(&mut self, name: &[u8], other: &[u8]) -> Result<Text, StepFault>
+    /// Makes the text whether two functions are equal, and where they differ first if they aren't.
+    pub(crate) fn equal(
+        &mut self,
+        name: &[u8],
+        other: &[u8],
+        text: &mut Text,
+    ) -> Result<(), StepFault>
         requires set { IsSome self.old.level }
-        ensures goes { IfOk result (λ t. step (state_of self.old) (Equal name.now other.now) ≡ Goes (state_of self.old) t) }
-        ensures fault { IfErr result (IsFaultOfStep (state_of self.old) (Equal name.now other.now)) }
+        ensures goes { OnOk result (tell_equal (state_of self.old) name.now other.now ≡ Goes (state_of self.old) text.new) }
+        ensures fault { IfErr result (IsFaultOfStep (tell_equal (state_of self.old) name.now other.now)) }
         ensures same { Grows self.old self.new }
     {
         let f = self.ask(name)?;
@@ -148,30 +160,32 @@ impl Session {
         if f.head.level != g.head.level {
             return Err(StepFault::Refused(Refusal::LevelsDiffer));
         }
-        Ok(difference(&mut self.pkg, f, g)?)
+        Ok(difference(&mut self.pkg, f, g, text)?)
     }
 
-    /// How large a function is.
-    pub(crate) fn size(&self, name: &[u8]) -> Result<Text, StepFault>
+    /// Makes the text how large a function is.
+    pub(crate) fn size(&self, name: &[u8], text: &mut Text) -> Result<(), StepFault>
         requires set { IsSome self.now.level }
-        ensures goes { IfOk result (λ t. step (state_of self.now) (Size name.now) ≡ Goes (state_of self.now) t) }
-        ensures fault { IfErr result (IsFaultOfStep (state_of self.now) (Size name.now)) }
+        ensures goes { OnOk result (tell_size (state_of self.now) name.now ≡ Goes (state_of self.now) text.new) }
+        ensures fault { IfErr result (IsFaultOfStep (tell_size (state_of self.now) name.now)) }
     {
         let f = self.ask(name)?;
         let sizes = self.pkg.sizes(f)?;
-        Ok(size_text(f.head.level, &sizes.per_level, sizes.exits))
+        size_text(f.head.level, &sizes.per_level, sizes.exits, text);
+        Ok(())
     }
 
-    /// How many names are bound, and how large all functions are together.
-    pub(crate) fn stats(&self) -> Result<Text, StepFault>
+    /// Makes the text how many names are bound, and how large all functions are together.
+    pub(crate) fn stats(&self, text: &mut Text) -> Result<(), StepFault>
         requires set { IsSome self.now.level }
-        ensures goes { IfOk result (λ t. step (state_of self.now) Stats ≡ Goes (state_of self.now) t) }
-        ensures fault { IfErr result (IsFaultOfStep (state_of self.now) Stats) }
+        ensures goes { OnOk result (tell_stats (state_of self.now) ≡ Goes (state_of self.now) text.new) }
+        ensures fault { IfErr result (IsFaultOfStep (tell_stats (state_of self.now))) }
     {
         self.law();
         let mut all = Vec::from_slice(self.alloc, self.variables.functions())?;
         all.extend_from_slice(self.functions.functions())?;
         let per_level = self.pkg.live_sizes(all.as_slice())?;
-        Ok(stats_text(all.len() as u64, &per_level))
+        stats_text(all.len() as u64, &per_level, text);
+        Ok(())
     }
 }

@@ -3,9 +3,8 @@
 ghost use Rattle.std.specs.Prelude.{◌≡◌, ◌≤◌, ◌+◌, ◌^◌, ◌++◌, [], nat_le, length, false, Some, IsSome, IfErr, IfOk, OnOk, OnErr};
 ghost use Rattle.std.specs.List.{list_any};
 ghost use Rattle.cf_pkg.specs.Packages.{OwnsFunction, Keeps, meaning};
-ghost use Rattle.cf_reference.specs.Trees.{Level, Vars};
 ghost use Rattle.cf_reference.specs.States.{level_in, is_among, is_bound, repeats, bind as bind_flat};
-ghost use Rattle.cf_reference.specs.Carrying.{Refuses, Goes, clashes, step};
+ghost use Rattle.cf_reference.specs.Carrying.{Refuses, Goes, clashes, set_level, declare};
 ghost use Rattle.cf_session.specs.Building.{Grows};
 ghost use Rattle.cf_session.specs.Faults.{reason_of};
 ghost use Rattle.cf_session.specs.Sessions.{names_of, state_of};
@@ -59,8 +58,8 @@ fn add_variables(
 impl Session {
     /// Sets the level, which is set once.
     pub(crate) fn set_level(&mut self, k: i128) -> Result<(), Refusal>
-        ensures goes { OnOk result (step (state_of self.old) (Level k) ≡ Goes (state_of self.new) []) }
-        ensures refused { IfErr result (λ r. step (state_of self.old) (Level k) ≡ Refuses (reason_of r)) }
+        ensures goes { OnOk result (set_level (state_of self.old) k ≡ Goes (state_of self.new) []) }
+        ensures refused { IfErr result (λ r. set_level (state_of self.old) k ≡ Refuses (reason_of r)) }
         ensures same { OnErr result (self.new ≡ self.old) }
         ensures package { self.new.pkg ≡ self.old.pkg }
     {
@@ -116,8 +115,8 @@ impl Session {
     /// Declares variables. If it fails, level and names are as before.
     pub(crate) fn declare(&mut self, names: &[&[u8]]) -> Result<(), StepFault>
         requires set { IsSome self.old.level }
-        ensures goes { OnOk result (step (state_of self.old) (Vars (bytes_of names.now)) ≡ Goes (state_of self.new) []) }
-        ensures fault { IfErr result (IsFaultOfStep (state_of self.old) (Vars (bytes_of names.now))) }
+        ensures goes { OnOk result (declare (state_of self.old) (bytes_of names.now) ≡ Goes (state_of self.new) []) }
+        ensures fault { IfErr result (IsFaultOfStep (declare (state_of self.old) (bytes_of names.now))) }
         ensures same { OnErr result (Grows self.old self.new) }
         ensures kept { Keeps self.old.pkg self.new.pkg }
     {
@@ -139,6 +138,7 @@ impl Session {
     pub(crate) fn bind_function(&mut self, name: &[u8], f: Func) -> Result<(), NoMemory>
         requires set { IsSome self.old.level }
         requires owned { OwnsFunction self.old.pkg f }
+        requires free { is_among (state_of self.old).variables name.now ≡ false }
         ensures level { self.new.level ≡ self.old.level }
         ensures variables { self.new.variables ≡ self.old.variables }
         ensures package { self.new.pkg ≡ self.old.pkg }

@@ -3,12 +3,12 @@
 ghost use Rattle.std.specs.Prelude.{◌≡◌, ◌≢◌, ◌≤◌, ◌++◌, [], length, IsTrue, IsSome, IfErr, OnOk, OnErr};
 ghost use Rattle.cf_io.specs.Causes.{Rose};
 ghost use Rattle.cf_pkg.specs.Packages.{Keeps};
-ghost use Rattle.cf_reference.specs.Trees.{Formed, IsFormed, Level, Vars, Let, Value, First, Listed, Equal, Size, Stats};
+ghost use Rattle.cf_reference.specs.Trees.{Formed, IsFormed};
 ghost use Rattle.cf_reference.specs.Trees as tree;
 ghost use Rattle.cf_reference.specs.Words.{is_bits};
 ghost use Rattle.cf_reference.specs.Answers.{list_reply};
 ghost use Rattle.cf_reference.specs.States.{is_among};
-ghost use Rattle.cf_reference.specs.Carrying.{Goes, step};
+ghost use Rattle.cf_reference.specs.Carrying.{Goes, define, tell_list, step};
 ghost use Rattle.cf_script.specs.Views.{tree_of, statement_of};
 ghost use Rattle.cf_session.specs.Sessions.{state_of};
 ghost use Rattle.cf_session.specs.Stepping.{LeadsTo, Replies, IsAnswerTo, NeedsNoMemory, Puts, Does, sunk, wants_level, lacks_level, Answers, AnswersAlways, stepped_by};
@@ -44,29 +44,31 @@ fn put_text<K: Sink>(out: &mut K, text: &Text) -> bool
 }
 
 /// Writes assignments, one in a line, and how many they are.
-fn put_listing<K: Sink>(out: &mut K, listing: Listing) -> bool
+fn put_listing<K: Sink>(out: &mut K, listing: Listing, text: &mut Text) -> bool
     requires { length listing ≤ 1000 }
     ensures { Puts (sunk (K.tells out.old) (K.written out.old) (K.faults out.old))
         (sunk (K.tells out.new) (K.written out.new) (K.faults out.new)) (list_reply listing) result }
 {
     let mut count = 0u64;
     for at in listing {
-        if !put_text(out, &bits_text(at)) {
+        bits_text(at, text);
+        if !put_text(out, text) {
             return false;
         }
         count += 1;
     }
-    put_text(out, &listed_text(count))
+    listed_text(count, text);
+    put_text(out, text)
 }
 
 /// Writes an answer, if there is one.
-fn answer<K: Sink>(out: &mut K, text: Result<Text, StepFault>) -> Stepped
-    ensures { Answers text (sunk (K.tells out.old) (K.written out.old) (K.faults out.old))
+fn answer<K: Sink>(made: Result<(), StepFault>, text: &Text, out: &mut K) -> Stepped
+    ensures { Answers made text.now (sunk (K.tells out.old) (K.written out.old) (K.faults out.old))
         (sunk (K.tells out.new) (K.written out.new) (K.faults out.new)) result }
 {
-    match text {
-        Ok(text) => {
-            if put_text(out, &text) {
+    match made {
+        Ok(()) => {
+            if put_text(out, text) {
                 Stepped::Written
             } else {
                 Stepped::WriteFault
@@ -78,13 +80,13 @@ fn answer<K: Sink>(out: &mut K, text: Result<Text, StepFault>) -> Stepped
 }
 
 /// Writes an answer that wants no memory, if there is one.
-fn answer_always<K: Sink>(out: &mut K, text: Result<Text, Refusal>) -> Stepped
-    ensures { AnswersAlways text (sunk (K.tells out.old) (K.written out.old) (K.faults out.old))
+fn answer_always<K: Sink>(made: Result<(), Refusal>, text: &Text, out: &mut K) -> Stepped
+    ensures { AnswersAlways made text.now (sunk (K.tells out.old) (K.written out.old) (K.faults out.old))
         (sunk (K.tells out.new) (K.written out.new) (K.faults out.new)) result }
 {
-    match text {
-        Ok(text) => {
-            if put_text(out, &text) {
+    match made {
+        Ok(()) => {
+            if put_text(out, text) {
                 Stepped::Written
             } else {
                 Stepped::WriteFault
@@ -132,8 +134,8 @@ impl Session {
     fn define(&mut self, name: &[u8], expr: &Expr) -> Result<(), StepFault>
         requires set { IsSome self.old.level }
         requires formed { IsFormed (tree_of expr.now) }
-        ensures goes { OnOk result (step (state_of self.old) (Let name.now (tree_of expr.now)) ≡ Goes (state_of self.new) []) }
-        ensures fault { IfErr result (IsFaultOfStep (state_of self.old) (Let name.now (tree_of expr.now))) }
+        ensures goes { OnOk result (define (state_of self.old) name.now (tree_of expr.now) ≡ Goes (state_of self.new) []) }
+        ensures fault { IfErr result (IsFaultOfStep (define (state_of self.old) name.now (tree_of expr.now))) }
         ensures same { OnErr result (Grows self.old self.new) }
         ensures kept { Keeps self.old.pkg self.new.pkg }
     {
@@ -153,14 +155,21 @@ impl Session {
     }
 
     /// The first assignments of a value, each in a line.
-    fn step_list<K: Sink>(&self, name: &[u8], v: i128, most: i128, out: &mut K) -> Stepped
+    fn step_list<K: Sink>(
+        &self,
+        name: &[u8],
+        v: i128,
+        most: i128,
+        text: &mut Text,
+        out: &mut K,
+    ) -> Stepped
         requires set { IsSome self.now.level }
-        ensures { Does (step (state_of self.now) (Listed name.now v most)) self.now self.now (sunk (K.tells out.old) (K.written out.old) (K.faults out.old))
+        ensures { Does (tell_list (state_of self.now) name.now v most) self.now self.now (sunk (K.tells out.old) (K.written out.old) (K.faults out.old))
             (sunk (K.tells out.new) (K.written out.new) (K.faults out.new)) result }
     {
         match self.list(name, v, most) {
             Ok(listing) => {
-                if put_listing(out, listing) {
+                if put_listing(out, listing, text) {
                     Stepped::Written
                 } else {
                     Stepped::WriteFault
@@ -172,12 +181,20 @@ impl Session {
     }
 
     /// Carries out a statement.
-    fn step_on<K: Sink>(&mut self, statement: &Statement, out: &mut K) -> Stepped
+    fn step_on<F: Files, K: Sink>(
+        &mut self,
+        files: &mut F,
+        statement: &Statement,
+        text: &mut Text,
+        out: &mut K,
+    ) -> Stepped
         requires { Formed (statement_of statement.now) }
-        ensures does { Does (step (state_of self.old) (statement_of statement.now)) self.old self.new (sunk (K.tells out.old) (K.written out.old) (K.faults out.old))
+        ensures does { Does (step (F.entries files.old) (state_of self.old) (statement_of statement.now)) self.old self.new (sunk (K.tells out.old) (K.written out.old) (K.faults out.old))
             (sunk (K.tells out.new) (K.written out.new) (K.faults out.new)) result }
         ensures memory { NeedsNoMemory (statement_of statement.now) → result ≢ Stepped.NoMemory }
+        ensures files { files.new ≡ files.old }
     {
+        let _ = files;
         if self.lacks_level(statement) {
             return Stepped::Refused(Refusal::NoLevel);
         }
@@ -189,29 +206,32 @@ impl Session {
             },
             Statement::Vars(names) => changed(self.declare(names.items())),
             Statement::Let(name, expr) => changed(self.define(name, expr)),
-            Statement::Value(name, bits) => answer_always(out, self.value(name, bits)),
-            Statement::First(name, v) => answer_always(out, self.first(name, *v)),
-            Statement::List(name, v, most) => self.step_list(name, *v, *most, out),
-            Statement::Equal(name, other) => answer(out, self.equal(name, other)),
-            Statement::Size(name) => answer(out, self.size(name)),
-            Statement::Stats => answer(out, self.stats()),
+            Statement::Value(name, bits) => {
+                answer_always(self.value(name, bits, text), text, out)
+            }
+            Statement::First(name, v) => answer_always(self.first(name, *v, text), text, out),
+            Statement::List(name, v, most) => self.step_list(name, *v, *most, text, out),
+            Statement::Equal(name, other) => answer(self.equal(name, other, text), text, out),
+            Statement::Size(name) => answer(self.size(name, text), text, out),
+            Statement::Stats => answer(self.stats(text), text, out),
         }
     }
 
     /// Carries out a statement, and writes its reply. Whatever the answer is but `Written`, level
     /// and names are as before; and nothing was written, but on `WriteFault` a front of the reply.
-    /// The files are left alone.
+    /// The files are left alone. The text is room for the reply, and what it holds counts for nothing.
     pub fn step<F: Files, K: Sink>(
         &mut self,
         files: &mut F,
         statement: &Statement,
+        text: &mut Text,
         out: &mut K,
     ) -> Stepped
         requires { Formed (statement_of statement.now) }
-        ensures leads { LeadsTo (step (state_of self.old) (statement_of statement.now)) self.old self.new result }
-        ensures replies { IsTrue (K.tells out.old) → Replies (step (state_of self.old) (statement_of statement.now)) (K.written out.old) (K.written out.new) result }
+        ensures leads { LeadsTo (step (F.entries files.old) (state_of self.old) (statement_of statement.now)) self.old self.new result }
+        ensures replies { IsTrue (K.tells out.old) → Replies (step (F.entries files.old) (state_of self.old) (statement_of statement.now)) (K.written out.old) (K.written out.new) result }
         ensures complete { (Rose (K.faults out.old) (K.faults out.new) → ⊥) → result ≢ Stepped.NoMemory
-            → IsAnswerTo (step (state_of self.old) (statement_of statement.now)) result }
+            → IsAnswerTo (step (F.entries files.old) (state_of self.old) (statement_of statement.now)) result }
         ensures memory { NeedsNoMemory (statement_of statement.now) → result ≢ Stepped.NoMemory }
         ensures write { result ≡ Stepped.WriteFault → Rose (K.faults out.old) (K.faults out.new) }
         ensures file { result ≢ Stepped.FileFault }
@@ -220,7 +240,6 @@ impl Session {
         ensures later { K.faults out.old ≤ K.faults out.new }
         ensures files { files.new ≡ files.old }
     {
-        let _ = files;
-        self.step_on(statement, out)
+        self.step_on(files, statement, text, out)
     }
 }

@@ -1,3 +1,5 @@
+//! The refusals of lines.
+
 ghost use Rattle.std.specs.Prelude.{◌≡◌, ℕ, List, [], ◌∷◌, ◌++◌, decimal};
 ghost use Rattle.cf_reference.specs.Replies.{refusal};
 ghost use Rattle.cf_text.specs.Details.{refused_bytes};
@@ -17,14 +19,14 @@ pub enum Detail {
     Named(u64),
 }
 
-/// The refusal of a line. With `Named` the text ends with a blank, and the caller writes the name
-/// and the newline.
-pub fn refused_text(line: u64, number: u8, detail: Detail) -> Text
-    ensures text { result ≡ refused_bytes line number detail }
+/// The refusal of a line, in the place of what the text held. With `Named` it ends with a blank, and the
+/// caller writes the name and the newline.
+pub fn refused_text(line: u64, number: u8, detail: Detail, text: &mut Text)
+    ensures text { text.new ≡ refused_bytes line number detail }
     ensures named { (n : ℕ) (name : List ℕ) → detail ≡ Detail.Named n →
-        result ++ name ++ 10 ∷ [] ≡ refusal line number (decimal n ∷ name ∷ []) }
+        text.new ++ name ++ 10 ∷ [] ≡ refusal line number (decimal n ∷ name ∷ []) }
 {
-    let mut text = Text::new();
+    text.clear();
     text.add(b"refused ");
     text.add_number(line);
     text.add(b" ");
@@ -54,5 +56,4 @@ pub fn refused_text(line: u64, number: u8, detail: Detail) -> Text
             text.add(b" ");
         }
     }
-    text
 }

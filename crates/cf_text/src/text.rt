@@ -1,3 +1,5 @@
+//! A text of bounded length.
+
 ghost use Rattle.std.specs.Prelude.{◌≡◌, ℕ, ◌+◌, ◌*◌, ◌≤◌, List, [], ◌++◌, length, take};
 ghost use Rattle.cf_model.specs.Assignments.{bits, digits_of};
 ghost use Rattle.cf_text.specs.Words.{counts_behind};
@@ -24,13 +26,20 @@ impl Model for Text {
 }
 
 impl Text {
-    pub(crate) fn new() -> Text
+    /// A text without bytes.
+    pub fn new() -> Text
         ensures { result ≡ [] }
     {
         Text {
             buf: [0; 512],
             len: 0,
         }
+    }
+
+    pub(crate) fn clear(&mut self)
+        ensures { self.new ≡ [] }
+    {
+        self.len = 0;
     }
 
     /// The bytes of the text.

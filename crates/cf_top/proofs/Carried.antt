@@ -1,6 +1,6 @@
 -- What a line comes to that was parsed, and a statement that the session refuses.
 use Rattle.std.proofs.Common.{ℕ, ◌≡◌, List, ap, sym, subst}
-use Rattle.cf_reference.specs.States.{State}
+use Rattle.cf_reference.specs.States.{State, Files}
 use Rattle.cf_reference.specs.LineRefusals.{Parsed, Parses}
 use Rattle.cf_reference.specs.Parsing.{parse}
 use Rattle.cf_reference.specs.Carrying.{Outcome, Refuses}
@@ -15,8 +15,8 @@ use Rattle.cf_top.specs.Carrying.{StopsAt}
 use Rattle.cf_top.specs.declared.status.Status.{Status}
 
 -- what a line does is what the parse of its bytes does
-pub parsed : (s : State) (line : List ℕ) (p : Parsed) → Parses line p → step_parsed s p ≡ step_parsed s (parse line)
-parsed s line p h = sym (ap (step_parsed s) (parse-is line p h))
+pub parsed : (files : Files) (s : State) (line : List ℕ) (p : Parsed) → Parses line p → step_parsed files s p ≡ step_parsed files s (parse line)
+parsed files s line p h = sym (ap (step_parsed files s) (parse-is line p h))
 
 -- a statement was refused, and what came of writing this
 pub refused : (outcome : Outcome) (n : ℕ) (old new : Held) (before now after : List ℕ) (r : Refusal) (how : Status)

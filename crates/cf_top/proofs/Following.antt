@@ -2,7 +2,7 @@
 use Rattle.std.proofs.Common.{ℕ, ◌≡◌, ◌+◌, ◌≤◌, true, false, List, [], ◌∷◌, ◌++◌, take, drop, refl, ap, sym, ◌∙◌, subst, append_assoc, append-nil}
 use Rattle.std.proofs.lemmas.List.{take-append-drop}
 use Rattle.cf_reference.specs.Lines.{Line, fit, known_by, size, lines}
-use Rattle.cf_reference.specs.States.{State}
+use Rattle.cf_reference.specs.States.{State, Files}
 use Rattle.cf_reference.specs.Carrying.{Outcome}
 use Rattle.cf_reference.specs.Scripts.{Close, Done, Refused, Ending, adds, run_lines, carry, text_of, state_of, refuses}
 use Rattle.cf_reference.proofs.ScriptLaws.{adds-adds, run_lines-nil, run_lines-goes, run_lines-refused, run_lines-text}
@@ -73,43 +73,43 @@ front_of_take before after text h = record {
 }
 
 -- nothing is left: the run is done
-pub done_here : (whole : Ending) (s : State) (n handed from upto : ℕ) (before now old : List ℕ) → Follows whole (run_lines s n handed (lines old)) before now → lines old ≡ [] → from + handed ≤ upto
+pub done_here : (files : Files) (whole : Ending) (s : State) (n handed from upto : ℕ) (before now old : List ℕ) → Follows whole (run_lines files s n handed (lines old)) before now → lines old ≡ [] → from + handed ≤ upto
     → Ends whole Done before now from upto s
-done_here whole s n handed from upto before now old follows none read =
-    let e = ap (run_lines s n handed) none ∙ run_lines-nil s n handed in
-    closes whole (run_lines s n handed (lines old)) before now now Done from upto s follows
+done_here files whole s n handed from upto before now old follows none read =
+    let e = ap (run_lines files s n handed) none ∙ run_lines-nil files s n handed in
+    closes whole (run_lines files s n handed (lines old)) before now now Done from upto s follows
     (sym (ap (λ (end : Ending). now ++ end.text) e ∙ append-nil now))
     (ap (λ (end : Ending). end.close) e)
     (sym (ap (λ (end : Ending). end.state) e))
     (subst (λ k. from + k ≤ upto) (sym (ap (λ (end : Ending). end.read) e)) read)
 
 -- a line that goes on
-pub line_goes : (whole : Ending) (s : State) (n handed : ℕ) (before now after old : List ℕ) (line : Line) (more : List Line) (outcome : Outcome)
-    → Follows whole (run_lines s n handed (lines old)) before now → lines old ≡ line ∷ more → carry s handed line ≡ outcome → refuses outcome ≡ false → after ≡ now ++ text_of n outcome
-    → Follows whole (run_lines (state_of s outcome) (n + 1) (handed + size line) more) before after
-line_goes whole s n handed before now after old line more outcome follows e carried goes written =
-    goes_on whole (run_lines s n handed (lines old)) _ before now after (text_of n outcome) follows
-    (ap (run_lines s n handed) e ∙ run_lines-goes s n handed line more outcome carried goes)
+pub line_goes : (files : Files) (whole : Ending) (s : State) (n handed : ℕ) (before now after old : List ℕ) (line : Line) (more : List Line) (outcome : Outcome)
+    → Follows whole (run_lines files s n handed (lines old)) before now → lines old ≡ line ∷ more → carry files s handed line ≡ outcome → refuses outcome ≡ false → after ≡ now ++ text_of n outcome
+    → Follows whole (run_lines files (state_of s outcome) (n + 1) (handed + size line) more) before after
+line_goes files whole s n handed before now after old line more outcome follows e carried goes written =
+    goes_on whole (run_lines files s n handed (lines old)) _ before now after (text_of n outcome) follows
+    (ap (run_lines files s n handed) e ∙ run_lines-goes files s n handed line more outcome carried goes)
     written
 
 -- a line that is refused
-pub line_refused : (whole : Ending) (s : State) (n handed from upto : ℕ) (before now after old : List ℕ) (line : Line) (more : List Line) (outcome : Outcome)
-    → Follows whole (run_lines s n handed (lines old)) before now → lines old ≡ line ∷ more → carry s handed line ≡ outcome → refuses outcome ≡ true → after ≡ now ++ text_of n outcome
+pub line_refused : (files : Files) (whole : Ending) (s : State) (n handed from upto : ℕ) (before now after old : List ℕ) (line : Line) (more : List Line) (outcome : Outcome)
+    → Follows whole (run_lines files s n handed (lines old)) before now → lines old ≡ line ∷ more → carry files s handed line ≡ outcome → refuses outcome ≡ true → after ≡ now ++ text_of n outcome
     → from + known_by handed line (fit handed line) ≤ upto → Ends whole Refused before after from upto s
-line_refused whole s n handed from upto before now after old line more outcome follows e carried refused written read =
-    let end = ap (run_lines s n handed) e ∙ run_lines-refused s n handed line more outcome carried refused in
-    closes whole (run_lines s n handed (lines old)) before now after Refused from upto s follows
+line_refused files whole s n handed from upto before now after old line more outcome follows e carried refused written read =
+    let end = ap (run_lines files s n handed) e ∙ run_lines-refused files s n handed line more outcome carried refused in
+    closes whole (run_lines files s n handed (lines old)) before now after Refused from upto s follows
     (written ∙ sym (ap (λ (end : Ending). now ++ end.text) end))
     (ap (λ (end : Ending). end.close) end)
     (sym (ap (λ (end : Ending). end.state) end))
     (subst (λ k. from + k ≤ upto) (sym (ap (λ (end : Ending). end.read) end)) read)
 
 -- a line whose text couldn't be written
-pub line_fails : (whole : Ending) (s : State) (n handed : ℕ) (before now after old : List ℕ) (line : Line) (more : List Line) (outcome : Outcome)
-    → Follows whole (run_lines s n handed (lines old)) before now → lines old ≡ line ∷ more → carry s handed line ≡ outcome → AppendsFront now after (text_of n outcome)
+pub line_fails : (files : Files) (whole : Ending) (s : State) (n handed : ℕ) (before now after old : List ℕ) (line : Line) (more : List Line) (outcome : Outcome)
+    → Follows whole (run_lines files s n handed (lines old)) before now → lines old ≡ line ∷ more → carry files s handed line ≡ outcome → AppendsFront now after (text_of n outcome)
     → AppendsFront before after whole.text
-line_fails whole s n handed before now after old line more outcome follows e carried fails =
-    let t = run_lines-text s n handed line more outcome carried in
-    cut_in_text whole (run_lines s n handed (lines old)) before now after (text_of n outcome) t.0 follows
-    (ap (λ (end : Ending). end.text) (ap (run_lines s n handed) e) ∙ t.1)
+line_fails files whole s n handed before now after old line more outcome follows e carried fails =
+    let t = run_lines-text files s n handed line more outcome carried in
+    cut_in_text whole (run_lines files s n handed (lines old)) before now after (text_of n outcome) t.0 follows
+    (ap (λ (end : Ending). end.text) (ap (run_lines files s n handed) e) ∙ t.1)
     fails

@@ -15,7 +15,7 @@ ghost use Rattle.cf_top.specs.Ends.{Meets, Completes};
 
 use cf_io::{Files, Sink, Source, put_all};
 use cf_session::Session;
-use cf_text::usage_text;
+use cf_text::{Text, usage_text};
 use script::run_script;
 pub use status::Status;
 use std::alloc::Global;
@@ -39,7 +39,7 @@ pub fn run<S: Source, F: Files, K: Sink>(
     // level and names the session has then. Only a fault or want of memory cuts it off.
     ensures run { let said = map string_bytes words.now in
         (IsTrue (is_run said) → IsTrue (S.tells script.old)) → IsTrue (K.tells out.old) →
-        Meets (ref said (S.left script.old)) (K.written out.old) (K.written out.new)
+        Meets (ref (F.entries files.old) said (S.left script.old)) (K.written out.old) (K.written out.new)
         (S.taken script.old) (S.taken script.new) (state_of session.new) result }
     ensures complete { let said = map string_bytes words.now in
         (IsTrue (is_run said) → IsTrue (S.tells script.old)) → IsTrue (K.tells out.old) →
@@ -47,7 +47,7 @@ pub fn run<S: Source, F: Files, K: Sink>(
         ¬ Rose (F.faults files.old) (F.faults files.new) →
         ¬ Rose (K.faults out.old) (K.faults out.new) →
         result ≢ Status.NoMemory →
-        Completes (ref said (S.left script.old)) (K.written out.old) (K.written out.new) result }
+        Completes (ref (F.entries files.old) said (S.left script.old)) (K.written out.old) (K.written out.new) result }
 
     // At Done the source has ended, and nothing is left.
     ensures ended { result ≡ Status.Done → IsTrue (S.ended script.new) }
@@ -72,10 +72,14 @@ pub fn run<S: Source, F: Files, K: Sink>(
 {
     if is_run(words) {
         run_script(alloc, session, script, files, out)
-    } else if put_all(out, usage_text().bytes()) {
-        Status::Usage
     } else {
-        Status::WriteFault
+        let mut text = Text::new();
+        usage_text(&mut text);
+        if put_all(out, text.bytes()) {
+            Status::Usage
+        } else {
+            Status::WriteFault
+        }
     }
 }
 

@@ -18,7 +18,7 @@ use crate::status::Status;
 use cf_io::{Files, Lines, Next, Sink, Source, put_all};
 use cf_script::{ScriptFault, Statement, parse_line};
 use cf_session::{Session, Stepped};
-use cf_text::refused_text;
+use cf_text::{Text, refused_text};
 use std::alloc::Global;
 
 /// What a line did.
@@ -37,7 +37,7 @@ pub(crate) fn run_script<S: Source, F: Files, K: Sink>(
     out: &mut K,
 ) -> Status
     ensures run { IsTrue (S.tells script.old) → IsTrue (K.tells out.old) →
-        Meets (run_lines (state_of session.old) 1 0 (lines_of (S.left script.old))) (K.written out.old) (K.written out.new)
+        Meets (run_lines (F.entries files.old) (state_of session.old) 1 0 (lines_of (S.left script.old))) (K.written out.old) (K.written out.new)
         (S.taken script.old) (S.taken script.new) (state_of session.new) result }
     ensures ended { result ≡ Status.Done → IsTrue (S.ended script.new) }
     ensures done { IsTrue (S.tells script.old) → result ≡ Status.Done → S.left script.new ≡ [] }
@@ -67,7 +67,7 @@ fn run_lines<S: Source, F: Files, K: Sink>(
 ) -> Status
     requires { lines.old ≡ record { bytes = []; handed = 0; ended = false } }
     ensures run { IsTrue (S.tells script.old) → IsTrue (K.tells out.old) →
-        Meets (run_lines (state_of session.old) 1 0 (lines_of (S.left script.old))) (K.written out.old) (K.written out.new)
+        Meets (run_lines (F.entries files.old) (state_of session.old) 1 0 (lines_of (S.left script.old))) (K.written out.old) (K.written out.new)
         (S.taken script.old) (S.taken script.new) (state_of session.new) result }
     ensures ended { result ≡ Status.Done → IsTrue (S.ended script.new) }
     ensures done { IsTrue (S.tells script.old) → result ≡ Status.Done → S.left script.new ≡ [] }
@@ -80,20 +80,21 @@ fn run_lines<S: Source, F: Files, K: Sink>(
     ensures files { files.new ≡ files.old }
     ensures kept { Keeps session.old.pkg session.new.pkg }
 {
+    let mut text = Text::new();
     let mut number = 0u64;
     loop {
         number += 1;
         match lines.next_line(script) {
             Next::Line(line) => {
                 if let Carried::Stops(status) = carry_line(
-                    alloc, session, number, line, files, out,
+                    alloc, session, number, line, files, &mut text, out,
                 ) {
                     return status;
                 }
             }
             Next::End => return Status::Done,
-            Next::TooLong => return refuse(Reason::LineTooLong, number, out),
-            Next::ScriptTooLong => return refuse(Reason::ScriptTooLong, number, out),
+            Next::TooLong => return refuse(Reason::LineTooLong, number, &mut text, out),
+            Next::ScriptTooLong => return refuse(Reason::ScriptTooLong, number, &mut text, out),
             Next::ReadFault => return Status::ReadFault,
         }
     }
@@ -106,10 +107,11 @@ fn carry_line<F: Files, K: Sink>(
     number: u64,
     line: &[u8],
     files: &mut F,
+    text: &mut Text,
     out: &mut K,
 ) -> Carried
     ensures carries { IsTrue (K.tells out.old) →
-        Carries (step_parsed (state_of session.old) (parse line.now)) number
+        Carries (step_parsed (F.entries files.old) (state_of session.old) (parse line.now)) number
         (state_of session.old) (K.written out.old) (state_of session.new) (K.written out.new) result }
     ensures stops { EndsLine result }
     ensures told { K.tells out.new ≡ K.tells out.old }
@@ -119,10 +121,15 @@ fn carry_line<F: Files, K: Sink>(
     ensures kept { Keeps session.old.pkg session.new.pkg }
 {
     match parse_line(alloc, line) {
-        Ok(statement) => carry_statement(session, number, &statement, files, out),
-        Err(ScriptFault::Malformed) => Carried::Stops(refuse(Reason::Malformed, number, out)),
-        Err(ScriptFault::WideNumber) => Carried::Stops(refuse(Reason::WideNumber, number, out)),
-        Err(ScriptFault::TooDeep) => Carried::Stops(refuse(Reason::TooDeep, number, out)),
+        Ok(statement) => carry_statement(session, number, &statement, files, text, out),
+        Err(ScriptFault::Malformed) => Carried::Stops(refuse(Reason::Malformed, number, text, out)),
+        Err(ScriptFault::WideNumber) => Carried::Stops(refuse(
+            Reason::WideNumber,
+            number,
+            text,
+            out,
+        )),
+        Err(ScriptFault::TooDeep) => Carried::Stops(refuse(Reason::TooDeep, number, text, out)),
         Err(ScriptFault::NoMemory) => Carried::Stops(Status::NoMemory),
     }
 }
@@ -133,11 +140,12 @@ fn carry_statement<F: Files, K: Sink>(
     number: u64,
     statement: &Statement,
     files: &mut F,
+    text: &mut Text,
     out: &mut K,
 ) -> Carried
     requires { Formed (statement_of statement.now) }
     ensures carries { IsTrue (K.tells out.old) →
-        Carries (step (state_of session.old) (statement_of statement.now)) number
+        Carries (step (F.entries files.old) (state_of session.old) (statement_of statement.now)) number
         (state_of session.old) (K.written out.old) (state_of session.new) (K.written out.new) result }
     ensures stops { EndsLine result }
     ensures told { K.tells out.new ≡ K.tells out.old }
@@ -146,10 +154,10 @@ fn carry_statement<F: Files, K: Sink>(
     ensures files { files.new ≡ files.old }
     ensures kept { Keeps session.old.pkg session.new.pkg }
 {
-    match session.step(files, statement, out) {
+    match session.step(files, statement, text, out) {
         Stepped::Written => Carried::Goes,
         Stepped::Refused(refusal) => {
-            Carried::Stops(refuse(Reason::Statement(refusal), number, out))
+            Carried::Stops(refuse(Reason::Statement(refusal), number, text, out))
         }
         Stepped::WriteFault => Carried::Stops(Status::WriteFault),
         Stepped::FileFault => Carried::Stops(Status::FileFault),
@@ -158,7 +166,7 @@ fn carry_statement<F: Files, K: Sink>(
 }
 
 /// Writes the refusal of a line, which ends the run.
-fn refuse<K: Sink>(reason: Reason, number: u64, out: &mut K) -> Status
+fn refuse<K: Sink>(reason: Reason, number: u64, text: &mut Text, out: &mut K) -> Status
     ensures refused { IsTrue (K.tells out.old) → (s : State) →
         StopsAt (Refuses (reason_view reason)) number s (K.written out.old) s (K.written out.new) result }
     ensures stops { EndsRefusal result }
@@ -166,7 +174,7 @@ fn refuse<K: Sink>(reason: Reason, number: u64, out: &mut K) -> Status
     ensures later { K.faults out.old ≤ K.faults out.new }
     ensures write { result ≡ Status.WriteFault → Rose (K.faults out.old) (K.faults out.new) }
 {
-    let text = refused_text(number, reason.number(), reason.detail());
+    refused_text(number, reason.number(), reason.detail(), text);
     if put_all(out, text.bytes()) {
         Status::Refused
     } else {

@@ -5,5 +5,5 @@ use Rattle.cf_script.proofs.statements.read_list.Goals as goal
 
 pub returns-in-None : goal.returns-in-None
 returns-in-None c =
-    list-wide c.in-Some.name.now c.in-Some.value.now c.in-Some.most.now (words c.args.text.now) c.in-Some-number.value c.in-Some-natural.most c.in-Some.ensures.found
+    list-wide c.args.text.now c.in-Some.name.now c.in-Some.value.now c.in-Some.most.now (words c.args.text.now) c.in-Some-number.value c.in-Some-natural.most c.in-Some.ensures.found
     (sym c.is_name.ensures ∙ c.if-not-is_name.false) c.in-None.ensures c.in-Some-number.ensures c.in-Some-natural.ensures

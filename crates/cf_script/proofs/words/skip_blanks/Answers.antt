@@ -9,5 +9,8 @@ returns-in-Some-clause-same c = rw take_rest (visible-from c.args.text.now c.in-
 pub returns-in-Some-clause-begins : goal.returns-in-Some-clause-begins
 returns-in-Some-clause-begins c = rw take_rest (visible-from c.args.text.now c.in-Some.start (sym c.in-Some.ensures.place)).begins
 
+pub returns-in-Some-clause-behind : goal.returns-in-Some-clause-behind
+returns-in-Some-clause-behind c = rw take_rest (visible-from c.args.text.now c.in-Some.start (sym c.in-Some.ensures.place)).behind
+
 pub returns-in-None-clause-none : goal.returns-in-None-clause-none
 returns-in-None-clause-none c = visible-none c.args.text.now (sym c.in-None.ensures.place)

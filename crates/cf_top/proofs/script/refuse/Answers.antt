@@ -10,7 +10,7 @@ pub returns-else-put_all-clause-refused : goal.returns-else-put_all-clause-refus
 returns-else-put_all-clause-refused g c = λ told s.
     subst (AppendsFront (g.K.Sink.written c.args.out.now) (g.K.Sink.written c.put_all.new.out))
     (c.bytes.ensures.bytes
-    ∙ c.refused_text-text.ensures.text
+    ∙ c.refused_text.ensures.text
     ∙ c.detail.ensures c.args.number c.number.result
     ∙ ap (λ n. refusal c.args.number n (detail (reason_view c.args.reason))) c.number.ensures)
     (front_of_take _ _ _ (c.put_all.ensures.front told))

@@ -1,8 +1,9 @@
-use Rattle.std.proofs.Common.{◌+◌, ◌++◌, IsTrue, subst, sym, ◌∙◌, arith, refl}
+use Rattle.std.proofs.Common.{◌+◌, ◌++◌, IsTrue, subst, sym, ap, ◌∙◌, arith, refl}
 use Rattle.cf_io.specs.Held.{taken_by}
 use Rattle.cf_reference.specs.Lines.{LineTooLong, ScriptTooLong}
 use Rattle.cf_reference.specs.Reasons as reason
 use Rattle.cf_reference.specs.Parsing.{parse}
+use Rattle.cf_reference.specs.States.{Files}
 use Rattle.cf_reference.specs.Carrying.{Refuses}
 use Rattle.cf_reference.specs.Scripts.{step_parsed}
 use Rattle.cf_pkg.proofs.Valued.{Keeps-trans}
@@ -20,10 +21,12 @@ returns-in-Stops-clause-run g c = λ told_in told_out.
     let first = line_answered _ _ _ _ c.next_line.result c.in-Line.line (next.3 here_in (kept.attached told_in)).0 c.in-Line.is in
     let moved = line_moved _ _ _ _ c.next_line.result c.in-Line.line next.0 c.in-Line.is in
     let taken = taken_since (g.S.Source.taken c.args.script.now) (g.S.Source.taken c.loop-line.script) (g.S.Source.taken c.next_line.new.source) (taken_by c.loop-line.lines) (taken_by c.next_line.follows.lender-at-none) kept.taken next.0.taken in
-    line_stops _ (state_of c.loop-line.session) (state_of c.carry_line.new.session) (c.loop-line.number + 1) (g.S.Source.taken c.args.script.now) (g.S.Source.taken c.next_line.new.source) c.loop-line.lines c.next_line.follows.lender-at-none _ _ _
+    line_stops (g.F.Files.entries c.args.files.now) _ (state_of c.loop-line.session) (state_of c.carry_line.new.session) (c.loop-line.number + 1) (g.S.Source.taken c.args.script.now) (g.S.Source.taken c.next_line.new.source) c.loop-line.lines c.next_line.follows.lender-at-none _ _ _
     (c.loop-line.lines.bytes ++ g.S.Source.left c.loop-line.script) _ c.in-Line.line.now first.0 c.in-Stops.status
     (kept.run told_in told_out) first.1
-    (subst (Carries (step_parsed (state_of c.loop-line.session) (parse c.in-Line.line.now)) (c.loop-line.number + 1) (state_of c.loop-line.session) (g.K.Sink.written c.loop-line.out) (state_of c.carry_line.new.session) (g.K.Sink.written c.carry_line.new.out)) c.in-Stops.is (c.carry_line.ensures.carries here_out))
+    (subst (Carries (step_parsed (g.F.Files.entries c.args.files.now) (state_of c.loop-line.session) (parse c.in-Line.line.now)) (c.loop-line.number + 1) (state_of c.loop-line.session) (g.K.Sink.written c.loop-line.out) (state_of c.carry_line.new.session) (g.K.Sink.written c.carry_line.new.out)) c.in-Stops.is
+    (subst (λ (files : Files). Carries (step_parsed files (state_of c.loop-line.session) (parse c.in-Line.line.now)) (c.loop-line.number + 1) (state_of c.loop-line.session) (g.K.Sink.written c.loop-line.out) (state_of c.carry_line.new.session) (g.K.Sink.written c.carry_line.new.out) c.carry_line.result)
+    (ap g.F.Files.entries kept.files) (c.carry_line.ensures.carries here_out)))
     (omega (arith, taken, moved.1))
 
 pub returns-in-End-clause-run : goal.returns-in-End-clause-run
@@ -35,7 +38,7 @@ returns-in-End-clause-run g c = λ told_in told_out.
     let taken = taken_since (g.S.Source.taken c.args.script.now) (g.S.Source.taken c.loop-line.script) (g.S.Source.taken c.next_line.new.source) (taken_by c.loop-line.lines) (taken_by c.next_line.follows.lender-at-none) kept.taken next.0.taken in
     let ended = end_answered _ _ _ _ c.next_line.result hands c.in-End.is in
     let moved = end_moved _ _ _ _ c.next_line.result next.0 c.in-End.is in
-    end_stops _ (state_of c.loop-line.session) (c.loop-line.number + 1) c.loop-line.lines.handed (g.S.Source.taken c.args.script.now) (g.S.Source.taken c.next_line.new.source) _ _
+    end_stops (g.F.Files.entries c.args.files.now) _ (state_of c.loop-line.session) (c.loop-line.number + 1) c.loop-line.lines.handed (g.S.Source.taken c.args.script.now) (g.S.Source.taken c.next_line.new.source) _ _
     (c.loop-line.lines.bytes ++ g.S.Source.left c.loop-line.script) (kept.run told_in told_out) ended.0 (omega (arith, taken, moved.0))
 
 pub returns-in-TooLong-clause-run : goal.returns-in-TooLong-clause-run
@@ -48,7 +51,7 @@ returns-in-TooLong-clause-run g c = λ told_in told_out.
     let taken = taken_since (g.S.Source.taken c.args.script.now) (g.S.Source.taken c.loop-line.script) (g.S.Source.taken c.next_line.new.source) (taken_by c.loop-line.lines) (taken_by c.next_line.follows.lender-at-none) kept.taken next.0.taken in
     let begins = long_answered _ _ _ _ c.next_line.result hands c.in-TooLong.is in
     let moved = long_moved _ _ _ _ c.next_line.result next.0 c.in-TooLong.is in
-    long_stops _ (state_of c.loop-line.session) (c.loop-line.number + 1) (g.S.Source.taken c.args.script.now) (g.S.Source.taken c.next_line.new.source) c.loop-line.lines _ _ _
+    long_stops (g.F.Files.entries c.args.files.now) _ (state_of c.loop-line.session) (c.loop-line.number + 1) (g.S.Source.taken c.args.script.now) (g.S.Source.taken c.next_line.new.source) c.loop-line.lines _ _ _
     (c.loop-line.lines.bytes ++ g.S.Source.left c.loop-line.script) LineTooLong (Refuses reason.LineTooLong) c.refuse.result
     (kept.run told_in told_out) begins (λ _. refl) (c.refuse.ensures.refused here_out (state_of c.loop-line.session)) (λ _. omega (arith, taken, moved.1))
 
@@ -62,7 +65,7 @@ returns-in-ScriptTooLong-clause-run g c = λ told_in told_out.
     let taken = taken_since (g.S.Source.taken c.args.script.now) (g.S.Source.taken c.loop-line.script) (g.S.Source.taken c.next_line.new.source) (taken_by c.loop-line.lines) (taken_by c.next_line.follows.lender-at-none) kept.taken next.0.taken in
     let begins = script_long_answered _ _ _ _ c.next_line.result hands c.in-ScriptTooLong.is in
     let moved = script_long_moved _ _ _ _ c.next_line.result next.0 c.in-ScriptTooLong.is in
-    long_stops _ (state_of c.loop-line.session) (c.loop-line.number + 1) (g.S.Source.taken c.args.script.now) (g.S.Source.taken c.next_line.new.source) c.loop-line.lines _ _ _
+    long_stops (g.F.Files.entries c.args.files.now) _ (state_of c.loop-line.session) (c.loop-line.number + 1) (g.S.Source.taken c.args.script.now) (g.S.Source.taken c.next_line.new.source) c.loop-line.lines _ _ _
     (c.loop-line.lines.bytes ++ g.S.Source.left c.loop-line.script) ScriptTooLong (Refuses reason.ScriptTooLong) c.refuse-in-ScriptTooLong.result
     (kept.run told_in told_out) begins (λ _. refl) (c.refuse-in-ScriptTooLong.ensures.refused here_out (state_of c.loop-line.session)) (λ _. omega (arith, taken, moved.1))
 
@@ -89,8 +92,10 @@ loop-line-preserved g c =
           let here_in : IsTrue (g.S.Source.tells c.loop-line.script) = subst IsTrue (sym kept.script_told) told_in in
           let here_out : IsTrue (g.K.Sink.tells c.loop-line.out) = subst IsTrue (sym kept.out_told) told_out in
           let first = line_answered _ _ _ _ c.next_line.result c.in-Line.line (next.3 here_in (kept.attached told_in)).0 c.in-Line.is in
-          line_turns _ (state_of c.loop-line.session) (state_of c.carry_line.new.session) (c.loop-line.number + 1) c.loop-line.lines c.next_line.follows.lender-at-none _ _ _
+          line_turns (g.F.Files.entries c.args.files.now) _ (state_of c.loop-line.session) (state_of c.carry_line.new.session) (c.loop-line.number + 1) c.loop-line.lines c.next_line.follows.lender-at-none _ _ _
           (c.loop-line.lines.bytes ++ g.S.Source.left c.loop-line.script) _ c.in-Line.line.now first.0
           (kept.run told_in told_out) first.1
-          (subst (Carries (step_parsed (state_of c.loop-line.session) (parse c.in-Line.line.now)) (c.loop-line.number + 1) (state_of c.loop-line.session) (g.K.Sink.written c.loop-line.out) (state_of c.carry_line.new.session) (g.K.Sink.written c.carry_line.new.out)) c.in_default.is (c.carry_line.ensures.carries here_out));
+          (subst (Carries (step_parsed (g.F.Files.entries c.args.files.now) (state_of c.loop-line.session) (parse c.in-Line.line.now)) (c.loop-line.number + 1) (state_of c.loop-line.session) (g.K.Sink.written c.loop-line.out) (state_of c.carry_line.new.session) (g.K.Sink.written c.carry_line.new.out)) c.in_default.is
+          (subst (λ (files : Files). Carries (step_parsed files (state_of c.loop-line.session) (parse c.in-Line.line.now)) (c.loop-line.number + 1) (state_of c.loop-line.session) (g.K.Sink.written c.loop-line.out) (state_of c.carry_line.new.session) (g.K.Sink.written c.carry_line.new.out) c.carry_line.result)
+          (ap g.F.Files.entries kept.files) (c.carry_line.ensures.carries here_out)));
     }

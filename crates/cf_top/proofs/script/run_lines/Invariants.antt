@@ -22,8 +22,8 @@ invariant-loop-line g l = record {
   ended : IsTrue l.lines.ended → IsTrue (g.S.Source.ended l.script);
   attached : IsTrue (g.S.Source.tells l.fn.script) → IsTrue l.lines.ended → g.S.Source.left l.script ≡ [];
   run : IsTrue (g.S.Source.tells l.fn.script) → IsTrue (g.K.Sink.tells l.fn.out) →
-      Follows (run_lines (state_of l.fn.session) 1 0 (lines (g.S.Source.left l.fn.script)))
-      (run_lines (state_of l.session) (l.number + 1) l.lines.handed (lines (l.lines.bytes ++ g.S.Source.left l.script)))
+      Follows (run_lines (g.F.Files.entries l.fn.files) (state_of l.fn.session) 1 0 (lines (g.S.Source.left l.fn.script)))
+      (run_lines (g.F.Files.entries l.fn.files) (state_of l.session) (l.number + 1) l.lines.handed (lines (l.lines.bytes ++ g.S.Source.left l.script)))
       (g.K.Sink.written l.fn.out) (g.K.Sink.written l.out);
 }
 

@@ -1,9 +1,8 @@
 use Rattle.std.proofs.Common.{◌+◌, ◌^◌, ◌++◌, length, sym, ap, subst, ◌∙◌}
 use Rattle.std.specs.Prelude.{nat_le}
 use Rattle.std.specs.List.{list_any}
-use Rattle.cf_reference.specs.Trees.{Vars}
 use Rattle.cf_reference.specs.States.{level_in, is_among}
-use Rattle.cf_reference.specs.Carrying.{step}
+use Rattle.cf_reference.specs.Carrying.{declare}
 use Rattle.cf_session.specs.Sessions.{names_of, state_of}
 use Rattle.cf_session.specs.Statements.{bytes_of, ArePositions}
 use Rattle.cf_table.proofs.Told.{on_err}
@@ -60,5 +59,5 @@ invariant_of-self-2 c =
 
 pub returns-clause-goes : goal.returns-clause-goes
 returns-clause-goes c =
-    ap (λ h. step (state_of h) (Vars (bytes_of c.args.names.now))) (sym c.self.view_is)
+    ap (λ h. declare (state_of h) (bytes_of c.args.names.now)) (sym c.self.view_is)
     ∙ declared-goes (record { pkg = c.self.inside.pkg; level = c.self.inside.level; variables = c.self.inside.variables; functions = c.self.inside.functions }) c.add_variables.new.pkg c.add_variables.new.bound (bytes_of c.args.names.now) c.self.invariant (can c) (added c)

@@ -1,5 +1,5 @@
 use Rattle.std.proofs.Common.{◌∙◌, ap, inl, inr}
-use Rattle.cf_reference.specs.Trees.{Equal}
+use Rattle.cf_reference.specs.Carrying.{tell_equal}
 use Rattle.cf_reference.specs.Answers.{equal_answer}
 use Rattle.cf_pkg.specs.Packages.{meaning}
 use Rattle.cf_session.specs.declared.faults.StepFault.{StepFault}
@@ -12,12 +12,12 @@ use Rattle.cf_session.proofs.session.Session.equal.Goals as goal
 
 pub returns-in_err-f-clause-fault : goal.returns-in_err-f-clause-fault
 returns-in_err-f-clause-fault c =
-    handed-on c.from_residual.result (StepFault.Refused c.in_err-f.field-0.0) (IsFaultOfStep (state_of c.args.self.now) (Equal c.args.name.now c.args.other.now)) c.from_residual.ensures.1
+    handed-on c.from_residual.result (StepFault.Refused c.in_err-f.field-0.0) (IsFaultOfStep (tell_equal (state_of c.args.self.now) c.args.name.now c.args.other.now)) c.from_residual.ensures.1
     (unknown-equal c.args.self.now c.args.name.now c.args.other.now c.in_err-f.field-0.0 c.requires.set (inl c.in_err-f.ensures.unknown))
 
 pub returns-in_err-g-clause-fault : goal.returns-in_err-g-clause-fault
 returns-in_err-g-clause-fault c =
-    handed-on c.from_residual-in_err-g.result (StepFault.Refused c.in_err-g.field-0.0) (IsFaultOfStep (state_of c.args.self.now) (Equal c.args.name.now c.args.other.now)) c.from_residual-in_err-g.ensures.1
+    handed-on c.from_residual-in_err-g.result (StepFault.Refused c.in_err-g.field-0.0) (IsFaultOfStep (tell_equal (state_of c.args.self.now) c.args.name.now c.args.other.now)) c.from_residual-in_err-g.ensures.1
     (unknown-equal c.args.self.now c.args.name.now c.args.other.now c.in_err-g.field-0.0 c.requires.set (inr c.in_err-g.ensures.unknown))
 
 pub returns-then-f-g-clause-fault : goal.returns-then-f-g-clause-fault
@@ -35,7 +35,7 @@ invariant_of-self-2 c = held (record { pkg = c.self.inside.pkg; level = c.self.i
 
 pub returns-clause-goes : goal.returns-clause-goes
 returns-clause-goes c =
-    equal-goes c.args.self.now c.args.name.now c.args.other.now c.in_ok-f.f c.in_ok-g.g c.in_ok-difference.field-0 c.requires.set c.in_ok-f.ensures.named c.in_ok-g.ensures.named c.if-f-g.false
+    equal-goes c.args.self.now c.args.name.now c.args.other.now c.in_ok-f.f c.in_ok-g.g c.difference.new.text c.requires.set c.in_ok-f.ensures.named c.in_ok-g.ensures.named c.if-f-g.false
     (c.in_ok-difference.ensures.answer ∙ ap (λ h. equal_answer (meaning h.pkg c.in_ok-f.f) (meaning h.pkg c.in_ok-g.g)) c.self.view_is)
 
 pub returns-clause-same : goal.returns-clause-same

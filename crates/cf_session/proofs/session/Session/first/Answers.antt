@@ -6,7 +6,7 @@ use Rattle.std.proofs.Common.{ℤ, List, Bool, Some}
 use Rattle.cf_model.specs.Assignments.{bits}
 use Rattle.cf_model.specs.FlatFunctions.{IsAssignment, IsLeast, value_at}
 use Rattle.cf_pkg.specs.Packages.{meaning}
-use Rattle.cf_reference.specs.Carrying.{Refuses, Goes, step}
+use Rattle.cf_reference.specs.Carrying.{Refuses, Goes, tell_first}
 use Rattle.cf_session.specs.Faults.{reason_of}
 use Rattle.cf_session.specs.Sessions.{state_of}
 use Rattle.cf_session.proofs.WalkFacts.{handed-on}
@@ -15,7 +15,7 @@ use Rattle.cf_session.proofs.session.Session.first.Goals as goal
 
 pub returns-in_err-f-clause-refused : goal.returns-in_err-f-clause-refused
 returns-in_err-f-clause-refused c =
-    handed-on c.from_residual.result c.in_err-f.field-0.0 (λ r. step (state_of c.args.self.now) (First c.args.name.now c.args.v) ≡ Refuses (reason_of r)) c.from_residual.ensures.1
+    handed-on c.from_residual.result c.in_err-f.field-0.0 (λ r. tell_first (state_of c.args.self.now) c.args.name.now c.args.v ≡ Refuses (reason_of r)) c.from_residual.ensures.1
     (unknown-refused c.args.self.now (First c.args.name.now c.args.v) c.args.name.now c.in_err-f.field-0.0 c.requires.set refl c.in_err-f.ensures.unknown)
 
 pub returns-in-Some-clause-goes : goal.returns-in-Some-clause-goes

@@ -7,7 +7,7 @@ use Rattle.std.specs.Int.{w128}
 use Rattle.std.proofs.lemmas.Int.{to_z-of_z}
 use Rattle.cf_witness.specs.Witnesses.{assignments_of}
 use Rattle.cf_pkg.specs.Packages.{meaning}
-use Rattle.cf_reference.specs.Carrying.{lists}
+use Rattle.cf_reference.specs.Carrying.{lists, tell_list}
 use Rattle.cf_session.specs.declared.faults.StepFault.{StepFault}
 use Rattle.cf_session.specs.Sessions.{state_of}
 use Rattle.cf_session.specs.Statements.{IsFaultOfStep}
@@ -17,7 +17,7 @@ use Rattle.cf_session.proofs.session.Session.list.Goals as goal
 
 pub returns-in_err-f-clause-fault : goal.returns-in_err-f-clause-fault
 returns-in_err-f-clause-fault c =
-    handed-on c.from_residual.result (StepFault.Refused c.in_err-f.field-0.0) (IsFaultOfStep (state_of c.args.self.now) (Listed c.args.name.now c.args.v c.args.most)) c.from_residual.ensures.1
+    handed-on c.from_residual.result (StepFault.Refused c.in_err-f.field-0.0) (IsFaultOfStep (tell_list (state_of c.args.self.now) c.args.name.now c.args.v c.args.most)) c.from_residual.ensures.1
     (unknown-refused c.args.self.now (Listed c.args.name.now c.args.v c.args.most) c.args.name.now c.in_err-f.field-0.0 c.requires.set refl c.in_err-f.ensures.unknown)
 
 pub returns-then-not-lists-clause-fault : goal.returns-then-not-lists-clause-fault

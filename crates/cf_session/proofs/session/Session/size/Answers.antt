@@ -5,7 +5,7 @@ use Rattle.std.specs.Ordering.{int_eq}
 use Rattle.cf_model.specs.Renumbering.{distinct}
 use Rattle.cf_model.specs.Patterns.{pattern_of, sizes}
 use Rattle.cf_pkg.specs.Packages.{meaning}
-use Rattle.cf_reference.specs.Carrying.{Goes}
+use Rattle.cf_reference.specs.Carrying.{Goes, tell_size}
 use Rattle.cf_session.specs.declared.faults.StepFault.{StepFault}
 use Rattle.cf_session.specs.Sessions.{state_of}
 use Rattle.cf_session.specs.Statements.{IsFaultOfStep}
@@ -15,7 +15,7 @@ use Rattle.cf_session.proofs.session.Session.size.Goals as goal
 
 pub returns-in_err-f-clause-fault : goal.returns-in_err-f-clause-fault
 returns-in_err-f-clause-fault c =
-    handed-on c.from_residual.result (StepFault.Refused c.in_err-f.field-0.0) (IsFaultOfStep (state_of c.args.self.now) (Size c.args.name.now)) c.from_residual.ensures.1
+    handed-on c.from_residual.result (StepFault.Refused c.in_err-f.field-0.0) (IsFaultOfStep (tell_size (state_of c.args.self.now) c.args.name.now)) c.from_residual.ensures.1
     (unknown-refused c.args.self.now (Size c.args.name.now) c.args.name.now c.in_err-f.field-0.0 c.requires.set refl c.in_err-f.ensures.unknown)
 
 pub returns-clause-goes : goal.returns-clause-goes
