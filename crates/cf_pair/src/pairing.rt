@@ -50,8 +50,8 @@ fn push_met(
     }) }
 {
     for exit in 0..plain.exits {
-        let pair = plain.meeting.pair(exit);
-        rows.push_label((left[pair.0 as usize], right[pair.1 as usize]))?;
+        let met = plain.meeting.pair(exit);
+        rows.push_label((left[met.0 as usize], right[met.1 as usize]))?;
     }
     Ok(())
 }
