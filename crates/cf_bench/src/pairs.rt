@@ -1,6 +1,6 @@
-ghost use Rattle.std.specs.Prelude.{◌≡◌, ◌<◌, ◌≤◌, All};
+ghost use Rattle.std.specs.Prelude.{◌≡◌, ◌<◌, ◌≤◌, All, map};
 ghost use Rattle.std.specs.Bool.{OnTrue};
-ghost use Rattle.cf_build.specs.Assembling.{IsRow};
+ghost use Rattle.cf_build.specs.Assembling.{IsRow, listed};
 ghost use Rattle.cf_table.specs.Groupings.{Owns};
 
 use cf_build::assemble;
@@ -10,6 +10,13 @@ use cf_table::{DONT_CARE, FORK, Gid, Table};
 use cf_tuple::NoMemory;
 use std::alloc::Global;
 use std::sync::ledger::{Blank, Ledger};
+
+/// The groupings of a level's functions: of the one that is the same everywhere, and of each bit.
+#[derive(Drop)]
+struct LevelProjections {
+    constant: Gid,
+    bits: Vec<Gid>,
+}
 
 /// Pairs each projection of 2 ^ `level` variables with the next one, and answers how many groupings the levels have then.
 pub fn paired_projections<L: Ledger>(
@@ -24,18 +31,12 @@ pub fn paired_projections<L: Ledger>(
 {
     let mut steps = Steps::<L>::open(blank);
     let mut table = Table::new(alloc)?;
-    let mut before = None;
-    for position in 0..1u16 << level {
-        let next = projection(alloc, &mut table, level, position)?;
-        if let Some(g) = before
-            && let Some(h) = next
-            && table.owns(g)
-            && table.owns(h)
-            && g.level == h.level
-        {
+    let bits = projections(alloc, &mut table, level)?.bits;
+    for i in 1..bits.len() {
+        let (g, h) = (bits[i - 1], bits[i]);
+        if table.owns(g) && table.owns(h) && g.level == h.level {
             pair(alloc, &mut table, g, h, &mut steps)?;
         }
-        before = next;
     }
     let mut all = 0u64;
     for level in 0..8 {
@@ -44,46 +45,37 @@ pub fn paired_projections<L: Ledger>(
     Ok(all)
 }
 
-/// The function that is the same everywhere.
-fn constant(alloc: Global, table: &mut Table, level: u8) -> Result<Option<Gid>, NoMemory> {
-    let mut g = Some(DONT_CARE);
+/// The projections of a level, made from those of the levels below.
+fn projections(alloc: Global, table: &mut Table, level: u8) -> Result<LevelProjections, NoMemory> {
+    let mut below = LevelProjections {
+        constant: DONT_CARE,
+        bits: vec![in alloc; FORK]?,
+    };
     for _ in 0..level {
-        let Some(half) = g else {
-            return Ok(None);
-        };
-        g = assembled(alloc, table, half, &[(half, vec![in alloc; 0]?)])?;
+        below = projections_above(alloc, table, &below)?;
     }
-    Ok(g)
+    Ok(below)
 }
 
-/// The function that is the bit at a position.
-fn projection(
+/// The projections of the level above: each bit in the first half, and then each in the second half.
+fn projections_above(
     alloc: Global,
     table: &mut Table,
-    level: u8,
-    position: u16,
-) -> Result<Option<Gid>, NoMemory>
-    requires { level ≤ 7 }
-{
-    if level == 0 {
-        return Ok(Some(FORK));
-    }
-    let half = 1u16 << (level - 1);
-    let Some(same) = constant(alloc, table, level - 1)? else {
-        return Ok(None);
-    };
-    if position < half {
-        let Some(bit) = projection(alloc, table, level - 1, position)? else {
-            return Ok(None);
-        };
+    below: &LevelProjections,
+) -> Result<LevelProjections, NoMemory> {
+    let same = below.constant;
+    let whole = [(same, vec![in alloc; 0]?)];
+    let constant = assembled(alloc, table, same, &whole)?.unwrap_or(same);
+    let mut bits = Vec::new(alloc);
+    for &bit in &below.bits {
         let rows = [(same, vec![in alloc; 0]?), (same, vec![in alloc; 1]?)];
-        assembled(alloc, table, bit, &rows)
-    } else {
-        let Some(bit) = projection(alloc, table, level - 1, position - half)? else {
-            return Ok(None);
-        };
-        assembled(alloc, table, same, &[(bit, vec![in alloc; 0, 1]?)])
+        bits.extend(assembled(alloc, table, bit, &rows)?)?;
     }
+    for &bit in &below.bits {
+        let rows = [(bit, vec![in alloc; 0, 1]?)];
+        bits.extend(assembled(alloc, table, same, &rows)?)?;
+    }
+    Ok(LevelProjections { constant, bits })
 }
 
 /// The grouping of rows over an A-callee, or nothing where they don't fit.
@@ -104,13 +96,13 @@ fn assembled(
 }
 
 fn are_rows(table: &Table, level: u8, rows: &[(Gid, Vec<u64>)]) -> bool
-    ensures { OnTrue result (All (IsRow table.now.levels level) rows.now) }
+    ensures { OnTrue result (All (IsRow table.now.levels level) (map listed rows.now)) }
 {
     rows.iter().all(|row| is_row(table, level, row))
 }
 
 fn is_row(table: &Table, level: u8, row: &(Gid, Vec<u64>)) -> bool
-    ensures { OnTrue result (IsRow table.now.levels level row.now) }
+    ensures { OnTrue result (IsRow table.now.levels level (listed row.now)) }
 {
     row.0.level == level && table.owns(row.0) && row.1.len() as u64 == table.exits(row.0)
 }
