@@ -5,6 +5,7 @@ pub mod Numbered
 pub mod ConnectionTests
 pub mod Above
 pub mod Internable
+pub mod Interned
 pub mod First
 pub mod Entries
 pub mod Products

@@ -1,14 +1,12 @@
-use Rattle.std.proofs.Common.{◌≡◌, ℕ, zero, suc, List, [], ◌∷◌, ◌++◌, Bool, true, false, cond, ◌&&◌, nat_eq, map, Option, None, Some, position, get_or, MatchOption, length, ◌<◌, ◌≤◌, refl, sym, ◌∙◌, ap, arith}
-use Rattle.std.specs.List.{slice_get, position_or_len}
-use Rattle.std.proofs.lemmas.Grind.{common_steps}
-use Rattle.std.proofs.lemmas.List.Sums.{fails_before_first}
+use Rattle.std.proofs.Common.{◌≡◌, ℕ, zero, suc, List, [], ◌∷◌, Bool, true, false, cond, ◌&&◌, not, ◌+◌, nat_eq, map, Option, None, Some, refl, sym, ◌∙◌, ap, subst, inl, inr, arith}
+use Rattle.std.specs.List.{position_or_len}
 use Rattle.std.specs.Bool.{Decides}
-use Rattle.std.specs.Map.{keys_of}
+use Rattle.std.specs.Map.{keys_of, lookup}
+use Rattle.std.specs.Option.{UnwrapsOrElse}
 use Rattle.std.specs.Cmp.Lexicographic.{pointwise}
 use Rattle.std.proofs.lemmas.Bool.{false≢true}
 use Rattle.std.proofs.lemmas.Bool.Decides.{nat_tests}
 use Rattle.std.proofs.lemmas.Option.{same_Some}
-use Rattle.std.proofs.lemmas.List.Quantifiers.{position-Some}
 use Rattle.std.proofs.lemmas.Slice.Eq.{slice_eq-Decides}
 use Rattle.indexmap.specs.IndexMap.{insert_entry}
 use Rattle.cf_model.specs.Renumbering.{IsNew}
@@ -16,7 +14,7 @@ use Rattle.cf_table.specs.declared.level.PackedConnection.{PackedConnection}
 use Rattle.cf_table.specs.declared.level.PackedNode.{PackedNode}
 use Rattle.cf_table.specs.contracts.level.PackedConnectionPartialEq.TheImpl as connection_eq
 use Rattle.cf_table.specs.contracts.level.PackedNodePartialEq.TheImpl as node_eq
-use Rattle.cf_table.specs.Kept.{ids, ids_of, kept_of}
+use Rattle.cf_table.specs.Kept.{Kept, ids, ids_of, kept_of, IsEntered}
 use Rattle.cf_table.proofs.Shown.{same_packed}
 
 -- the derived test of two packed nodes
@@ -62,39 +60,42 @@ passes p q h =
     and_true (nat_eq p.a_callee q.a_callee) (pointwise connection_eq.eq-value.it p.connections.items q.connections.items)
     (same_number p.a_callee q.a_callee (ap (λ (x : ℕ × List PackedConnection). x.0) h)) ((connections-Decides p.connections.items q.connections.items).1 (ap (λ (x : ℕ × List PackedConnection). x.1) h))
 
--- what a look-up says of the ids
-abbrev Answer : List (PackedNode × ℕ) → PackedNode → Option ℕ → Type 0
-Answer es k o = MatchOption o (IsNew (map ids (map kept_of es)) (ids_of k)) (λ i. slice_get (map ids (map kept_of es)) i ≡ Some (ids_of k))
-
--- where no place is found, none passes
-missing : {X : Type 0} (p : X → Bool) (xs : List X) → position p xs ≡ None → (i : ℕ) (d : X) → i < length xs → p (get_or xs i d) ≡ false
-missing p xs e i d l =
-    let past : length xs ≤ position_or_len p xs = grind (arith, common_steps) in
-    fails_before_first p xs i d (omega (arith, past, l))
-
--- no key of the entries passes
-none_passes : (k : PackedNode) (es : List (PackedNode × ℕ)) → ((i : ℕ) (d : PackedNode) → i < length (keys_of es) → same k (get_or (keys_of es) i d) ≡ false) → IsNew (map ids (map kept_of es)) (ids_of k)
-none_passes k [] f i h = cc
-none_passes k (e ∷ es) f zero h = false≢true (sym (f 0 k (omega arith)) ∙ passes k e.0 (sym (same_Some (ids_of e.0) (ids_of k) h)))
-none_passes k (e ∷ es) f (suc i) h = none_passes k es (λ j d l. f (suc j) d (omega (arith, l))) i h
-
--- the ids of an entry
-ids_at : (es : List (PackedNode × ℕ)) (i : ℕ) (d : PackedNode) → i < length (keys_of es) → slice_get (map ids (map kept_of es)) i ≡ Some (ids_of (get_or (keys_of es) i d))
-ids_at [] i d h = absurd (omega (arith, h))
-ids_at (e ∷ es) zero d h = refl
-ids_at (e ∷ es) (suc i) d h = ids_at es i d (omega (arith, h))
-
-pub placed : (es : List (PackedNode × ℕ)) (k : PackedNode) (o : Option ℕ) → o ≡ position (same k) (keys_of es) → Answer es k o
-placed es k None e = none_passes k es (λ i d l. missing (same k) (keys_of es) (sym e) i d l)
-placed es k (Some at) e =
-    let p = position-Some (same k) (keys_of es) at k (sym e) in
-    ids_at es at k p.0 ∙ ap Some (sym (same_ids k (get_or (keys_of es) at k) p.1))
-
--- a new node goes last
-pub entered : (es : List (PackedNode × ℕ)) (k : PackedNode) (v : ℕ) → IsNew (map ids (map kept_of es)) (ids_of k) → insert_entry same es k v ≡ es ++ (k, v) ∷ []
-entered [] k v new = refl
-entered (e ∷ es) k v new = by (same k e.0) refl (entered es k v (λ i h. new (suc i) h))
+-- an entry that isn't the first
+behind : (e : PackedNode × ℕ) (es : List (PackedNode × ℕ)) (now : List Kept) (k : PackedNode) (exits at : ℕ) → same k e.0 ≡ false → IsEntered (map kept_of es) now (kept_of (k, exits)) at → IsEntered (map kept_of (e ∷ es)) (kept_of e ∷ now) (kept_of (k, exits)) (suc at)
+behind e es now k exits at q r = elim r [
+  | inl known ↦ inl (ap (λ (ks : List Kept). kept_of e ∷ ks) known.0, known.1)
+  | inr added ↦ inr (ap (λ (ks : List Kept). kept_of e ∷ ks) added.0, new added.1, ap suc added.2)
+]
   where
-    by : (b : Bool) → same k e.0 ≡ b → insert_entry same es k v ≡ es ++ (k, v) ∷ [] → cond b ((e.0, v) ∷ es) (e ∷ insert_entry same es k v) ≡ e ∷ (es ++ (k, v) ∷ [])
-    by true q r = absurd (new 0 (ap Some (sym (same_ids k e.0 q))))
-    by false q r = ap (λ (xs : List (PackedNode × ℕ)). e ∷ xs) r
+    new : IsNew (map ids (map kept_of es)) (ids_of k) → IsNew (map ids (map kept_of (e ∷ es))) (ids_of k)
+    new n zero h = false≢true (sym q ∙ passes k e.0 (sym (same_Some (ids_of e.0) (ids_of k) h)))
+    new n (suc i) h = n i h
+
+inserted : (es : List (PackedNode × ℕ)) (k : PackedNode) (exits v : ℕ) → UnwrapsOrElse (lookup (same k) es) (λ w. w ≡ exits) v
+    → IsEntered (map kept_of es) (map kept_of (insert_entry same es k v)) (kept_of (k, exits)) (position_or_len (same k) (keys_of es))
+inserted [] k exits v u = inr (ap (λ (x : ℕ). kept_of (k, x) ∷ []) u, (λ i h. cc), refl)
+inserted (e ∷ es) k exits v u = by (same k e.0) refl u (inserted es k exits v)
+  where
+    by : (b : Bool) → same k e.0 ≡ b → UnwrapsOrElse (cond b (Some e.1) (lookup (same k) es)) (λ w. w ≡ exits) v
+        → (UnwrapsOrElse (lookup (same k) es) (λ w. w ≡ exits) v → IsEntered (map kept_of es) (map kept_of (insert_entry same es k v)) (kept_of (k, exits)) (position_or_len (same k) (keys_of es)))
+        → IsEntered (map kept_of (e ∷ es)) (map kept_of (cond b ((e.0, v) ∷ es) (e ∷ insert_entry same es k v))) (kept_of (k, exits)) (cond (not b) (1 + position_or_len (same k) (keys_of es)) 0)
+    by true q t rest = inl (ap (λ (x : ℕ). kept_of (e.0, x) ∷ map kept_of es) t, ap Some (sym (same_ids k e.0 q)))
+    by false q t rest =
+        let place = position_or_len (same k) (keys_of es) in
+        let now = map kept_of (insert_entry same es k v) in
+        let one_more : suc place ≡ 1 + place = omega arith in
+        subst (λ (i : ℕ). IsEntered (map kept_of (e ∷ es)) (kept_of e ∷ now) (kept_of (k, exits)) i) one_more (behind e es now k exits place q (rest t))
+
+-- what an entry of the map leaves, whose value is the old one, or the new one where there was none
+pub entered_by : (es now : List (PackedNode × ℕ)) (before : List Kept) (k : PackedNode) (exits at v : ℕ) → map kept_of es ≡ before → now ≡ insert_entry same es k v → at ≡ position_or_len (same k) (keys_of es)
+    → UnwrapsOrElse (lookup (same k) es) (λ w. w ≡ exits) v → IsEntered before (map kept_of now) (kept_of (k, exits)) at
+entered_by es now before k exits at v b e p u =
+    subst (λ (ks : List Kept). IsEntered ks (map kept_of now) (kept_of (k, exits)) at) b
+    (subst (λ (xs : List (PackedNode × ℕ)). IsEntered (map kept_of es) (map kept_of xs) (kept_of (k, exits)) at) (sym e)
+    (subst (λ (i : ℕ). IsEntered (map kept_of es) (map kept_of (insert_entry same es k v)) (kept_of (k, exits)) i) (sym p) (inserted es k exits v u)))
+
+pub unwraps_so : {P : ℕ → Type 0} (o o' : Option ℕ) (v exits : ℕ) → o ≡ o' → ((w : ℕ) → P w → w ≡ exits) → UnwrapsOrElse o P v → UnwrapsOrElse o' (λ w. w ≡ exits) v
+unwraps_so None None v exits e f u = f v u
+unwraps_so None (Some y) v exits e f u = cc
+unwraps_so (Some x) None v exits e f u = cc
+unwraps_so (Some x) (Some y) v exits e f u = u ∙ same_Some x y e

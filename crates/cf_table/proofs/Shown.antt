@@ -52,11 +52,6 @@ found levels tuples l v h i a bs q =
     let e = shown_at levels tuples l v h in
     (omega (arith, r.0, ap length e), ap (λ (ns : List Node). get_or ns i no_node) e ∙ r.1)
 
--- what no node of a level shows is new among its ids
-pub still_new : (levels : List (List Kept)) (tuples : List (List ℕ)) (l : ℕ) (v : List Kept) → l < length levels → (a : ℕ) (bs : List PackedConnection) → LacksNode (shown_levels levels tuples) (suc l) (node_by tuples a bs) → IsNew (map ids (get_or levels l v)) (a, bs)
-still_new levels tuples l v h a bs lacks i q =
-    let r = found levels tuples l v h i a bs q in lacks i r.0 r.1
-
 -- owned connections of one level are told by what they show
 pub connection_tells : (tuples : List (List ℕ)) → AllDiffer tuples → (x y : BConn) → x.«to».level ≡ y.«to».level → x.ret.at < length tuples → y.ret.at < length tuples → connection_of tuples x ≡ connection_of tuples y → x ≡ y
 connection_tells tuples d x y level hx hy e =

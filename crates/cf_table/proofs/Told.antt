@@ -42,10 +42,6 @@ pub on_err : {T E : Type 0} (r : Result T E) (P : Type 0) → P → OnErr r P
 on_err (Ok x) P h = tt
 on_err (Err x) P h = h
 
-pub match_option : {A : Type 0} (o : Option A) {P P' : Type 0} {Q Q' : A → Type 0} → (P → P') → ((x : A) → Q x → Q' x) → MatchOption o P Q → MatchOption o P' Q'
-match_option None f g h = f h
-match_option (Some x) f g h = g x h
-
 -- a list that has an entry is there
 pub inside : {A : Type 0} (xss : List (List A)) (l i : ℕ) → i < length (get_or xss l []) → l < length xss
 inside xss l i h = elim (cases_lt l (length xss)) [

@@ -1,8 +1,8 @@
 use Rattle.std.specs.Prelude.{◌≡◌, ◌≢◌, ℕ, ◌<◌, ◌≤◌, List, [], ◌∷◌, length, map, slice_get, Some, slice_index_or as get_or, ◌⊎◌, All}
 use Rattle.std.specs.List.{zip}
-use Rattle.cf_model.specs.Renumbering.{IsNew, IsCanon}
+use Rattle.cf_model.specs.Renumbering.{width, IsNew, IsCanon}
 use Rattle.cf_model.specs.Patterns.{Pattern}
-use Rattle.cf_model.specs.Diagrams.{Levels, Connection, Node, no_node, connection_at, count, node, pattern, exits, with_node, IsGoodNode}
+use Rattle.cf_model.specs.Diagrams.{Levels, Connection, Node, no_node, connection_at, count, node, pattern, exits, all_returns, with_node, IsGoodNode}
 use Rattle.cf_tuple.specs.declared.Tid.{Tid}
 use Rattle.cf_table.specs.declared.Gid.{Gid}
 use Rattle.cf_table.specs.declared.BConn.{BConn}
@@ -75,6 +75,10 @@ connection_of tuples b = record { callee = b.«to».at; returns = tuple_of tuple
 -- the node that an A-callee and pairs of ids name
 abbrev pub node_with : List (List ℕ) → ℕ → List BConn → Node
 node_with tuples a bs = record { a_callee = a; connections = map (connection_of tuples) bs }
+
+-- how many exits a node has that pairs of ids name
+abbrev pub exits_with : List (List ℕ) → List BConn → ℕ
+exits_with tuples bs = width 0 (all_returns (map (connection_of tuples) bs))
 
 -- A B-connection of a node one level above l: its callee is of level l, and the table has its return tuple.
 pub record IsConnectionOver (t : Groupings) (l : ℕ) (b : BConn) : Type 0 where

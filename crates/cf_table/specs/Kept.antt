@@ -1,5 +1,5 @@
-use Rattle.std.specs.Prelude.{◌≡◌, ℕ, ◌<◌, List, [], ◌∷◌, ◌++◌, length, map, slice_set, slice_index_or as get_or, slice_get, Some, All}
-use Rattle.cf_model.specs.Renumbering.{width, AllDiffer}
+use Rattle.std.specs.Prelude.{◌≡◌, ℕ, ◌<◌, List, [], ◌∷◌, ◌++◌, length, map, slice_set, slice_index_or as get_or, slice_get, Some, All, ◌⊎◌}
+use Rattle.cf_model.specs.Renumbering.{width, AllDiffer, IsNew}
 use Rattle.cf_model.specs.Diagrams.{Levels, Connection, Node, no_node, all_returns, IsGood}
 use Rattle.cf_table.specs.declared.BConn.{BConn}
 use Rattle.cf_table.specs.declared.level.PackedConnection.{PackedConnection}
@@ -80,6 +80,19 @@ pub record Holds (levels : List (List Kept)) (tuples : List (List ℕ)) : Type 0
 -- One more grouping is kept, at the end of its level.
 abbrev pub IsAdded : List (List Kept) → List (List Kept) → ℕ → Kept → Type 0
 IsAdded before now l k = now ≡ slice_set before l (get_or before l [] ++ k ∷ [])
+
+-- A grouping stands at place `at` of a level, which is as before, or lacked it and has it as one more, at its end.
+abbrev pub IsEntered : List Kept → List Kept → Kept → ℕ → Type 0
+IsEntered before now k at =
+    ((now ≡ before) × (slice_get (map ids before) at ≡ Some (ids k)))
+    ⊎ ((now ≡ before ++ k ∷ []) × IsNew (map ids before) (ids k) × (at ≡ length before))
+
+-- The same of level l, where the other levels stay.
+abbrev pub IsEnteredAt : List (List Kept) → List (List Kept) → ℕ → Kept → ℕ → Type 0
+IsEnteredAt before now l k at =
+    let level = get_or before l [] in
+    ((now ≡ before) × (slice_get (map ids level) at ≡ Some (ids k)))
+    ⊎ (IsAdded before now l k × IsNew (map ids level) (ids k) × (at ≡ length level))
 
 -- What a table keeps of products: each is one, and no pair of patterns stands twice.
 pub record HoldsProducts (t : Levels) (entries : List (Operands × Product)) : Type 0 where

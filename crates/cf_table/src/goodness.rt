@@ -1,13 +1,12 @@
 //! The test of a node that is to be interned.
 
-ghost use Rattle.std.specs.Prelude.{◌≡◌, ◌≤◌, ◌^◌, ◌↔◌, All, IsTrue, IfOk, MatchOption, map};
+ghost use Rattle.std.specs.Prelude.{◌≡◌, ◌<◌, ◌≤◌, ◌^◌, ◌↔◌, length, All, IsTrue, IfOk, MatchOption};
 ghost use Rattle.cf_model.specs.Renumbering.{width, Grows, AllDiffer};
-ghost use Rattle.cf_model.specs.Diagrams.{all_returns};
-ghost use Rattle.cf_table.specs.Groupings.{Owns, OwnsTuple, connection_of, IsInternable};
+ghost use Rattle.cf_table.specs.Groupings.{Owns, OwnsTuple, exits_with, IsInternable};
 ghost use Rattle.cf_table.specs.Goodness.{returns_of, IsNumberedOn, IsGoodOver};
 
 use super::{BConn, Gid, Table};
-use cf_tuple::NoMemory;
+use cf_tuple::{NoMemory, TupleBook};
 use std::alloc::AllocError;
 
 /// Whether no entry stands in the list twice.
@@ -80,14 +79,13 @@ fn given_out(before: u64, list: &[u64]) -> Result<u64, NoMemory>
 }
 
 /// How many exits a good node has.
-pub(crate) fn exits_of(table: &Table, bs: &[BConn]) -> Result<u64, NoMemory>
-    requires { All (λ b. OwnsTuple table.now b.ret) bs.now }
-    ensures { let connections = map (connection_of table.now.tuples) bs.now in
-        IfOk result (λ n. n ≡ width 0 (all_returns connections)) }
+pub(crate) fn exits_of(book: &TupleBook, bs: &[BConn]) -> Result<u64, NoMemory>
+    requires { All (λ b. b.ret.at < length book.now) bs.now }
+    ensures { IfOk result (λ n. n ≡ exits_with book.now bs.now) }
 {
     let mut next = 0;
     for b in bs {
-        next = given_out(next, table.tuple(b.ret))?;
+        next = given_out(next, book.get(b.ret))?;
     }
     Ok(next)
 }

@@ -1,14 +1,15 @@
 //! The groupings of a level above level 0, each kept once and found by its hash.
 
-ghost use Rattle.std.specs.Prelude.{◌≡◌, ◌<◌, ◌+◌, ◌*◌, ◌^◌, [], ◌∷◌, ◌++◌, length, map, slice_get, Some, IfOk, OnOk, OnErr, MatchOption};
+ghost use Rattle.std.specs.Prelude.{◌≡◌, ◌<◌, ◌+◌, ◌*◌, ◌^◌, [], All, length, map, slice_get, Some, IfOk, OnErr};
 ghost use Rattle.std.proofs.Common.{rules};
 ghost use Rattle.std.specs.Hash as fed;
 ghost use Rattle.std.specs.Cmp.Rules.{hashing};
-ghost use Rattle.cf_model.specs.Renumbering.{IsNew};
-ghost use Rattle.cf_table.specs.Kept.{ids, ids_of, kept_of, packed};
+ghost use Rattle.cf_table.specs.Groupings.{exits_with};
+ghost use Rattle.cf_table.specs.Kept.{ids_of, kept_of, packed, IsEntered};
 
 use super::BConn;
-use cf_tuple::NoMemory;
+use super::goodness::exits_of;
+use cf_tuple::{NoMemory, TupleBook};
 use indexmap::IndexMap;
 use smallvec::SmallVec;
 use std::alloc::{AllocError, Global};
@@ -110,23 +111,22 @@ impl Level {
         })
     }
 
-    /// The place of a grouping.
-    pub fn find(&self, node: &PackedNode) -> Option<usize>
-        ensures { MatchOption result
-            (IsNew (map ids self.now) (ids_of node.now))
-            (λ i. slice_get (map ids self.now) i ≡ Some (ids_of node.now)) }
-    {
-        self.nodes.get_index_of(node)
-    }
-
-    /// Adds a grouping that the level hasn't.
-    pub fn add(&mut self, node: PackedNode, exits: u64) -> Result<(), NoMemory>
-        requires { IsNew (map ids self.old) (ids_of node) }
-        ensures added { OnOk result (self.new ≡ self.old ++ kept_of (node, exits) ∷ []) }
+    /// The place of a grouping, which is added if the level hasn't it.
+    pub fn enter(
+        &mut self,
+        node: PackedNode,
+        book: &TupleBook,
+        bs: &[BConn],
+    ) -> Result<usize, NoMemory>
+        requires { All (λ b. b.ret.at < length book.now) bs.now }
+        ensures entered { let k = kept_of (node, exits_with book.now bs.now) in
+            IfOk result (λ at. IsEntered self.old self.new k at) }
         ensures no_memory { OnErr result (self.new ≡ self.old) }
     {
-        self.nodes.insert(node, exits)?;
-        Ok(())
+        let entry = self.nodes.entry(node)?;
+        let at = entry.index();
+        entry.or_try_insert_with(|| exits_of(book, bs))?;
+        Ok(at)
     }
 
     /// A grouping, and how many exits it has.

@@ -26,15 +26,14 @@ ghost use Rattle.cf_table.specs.Groupings.{
   exits_of,
   connection_of,
   node_with,
-  IsConnectionOver,
+  exits_with,
   IsInternable,
-  LacksNode,
   IsInterned,
   KeepsPatterns,
   IsFirstOf,
 };
 ghost use Rattle.cf_table.specs.Triples.{IsTriple};
-ghost use Rattle.cf_table.specs.Kept.{ids, ids_of, kept_of, packed, shown_node, shown_levels, IsKept, IsAdded, Holds};
+ghost use Rattle.cf_table.specs.Kept.{kept_of, shown_node, shown_levels, IsKept, IsEnteredAt, Holds};
 
 use cf_tuple::{NoMemory, Tid, TupleBook};
 use indexmap::IndexMap;
@@ -139,13 +138,21 @@ impl Model for Table {
         table.products.entries table.triples.entries table.reductions.entries };
 }
 
-fn add(levels: &mut [Level], at: usize, node: PackedNode, exits: u64) -> Result<(), NoMemory>
+/// The place of a grouping in its level, which is added if the level hasn't it.
+fn enter(
+    levels: &mut [Level],
+    at: usize,
+    node: PackedNode,
+    book: &TupleBook,
+    bs: &[BConn],
+) -> Result<usize, NoMemory>
     requires level { at < length levels.old }
-    requires new { IsNew (map ids (slice_index_or levels.old at [])) (ids_of node) }
-    ensures added { OnOk result (IsAdded levels.old levels.new at (kept_of (node, exits))) }
-    ensures same { OnErr result (levels.new ≡ levels.old) }
+    requires connections { All (λ b. b.ret.at < length book.now) bs.now }
+    ensures entered { let k = kept_of (node, exits_with book.now bs.now) in
+        IfOk result (λ place. IsEnteredAt levels.old levels.new at k place) }
+    ensures no_memory { OnErr result (levels.new ≡ levels.old) }
 {
-    levels[at].add(node, exits)
+    levels[at].enter(node, book, bs)
 }
 
 /// Seven levels without a grouping.
@@ -215,22 +222,6 @@ impl Table {
         self.book.owns(t)
     }
 
-    /// What the grouping with this A-callee and these B-connections is found by, and its place if the table has it.
-    fn find(&self, a: Gid, bs: &[BConn]) -> Result<(PackedNode, Option<usize>), NoMemory>
-        requires level { a.level ≤ 6 }
-        requires connections { All (IsConnectionOver self.now a.level) bs.now }
-        ensures packed { IfOk result (λ r. ids_of r.0 ≡ (a.at, map packed bs.now)) }
-        ensures found { let n = node_with self.now.tuples a.at bs.now in
-            IfOk result (λ r. MatchOption r.1
-            (LacksNode self.now.levels (a.level + 1) n)
-            (λ i. (i < count self.now.levels (a.level + 1)) × (node self.now.levels (a.level + 1) i ≡ n))) }
-    {
-        let level = &self.levels[a.level as usize];
-        let node = level.pack(a.at, bs)?;
-        let place = level.find(&node);
-        Ok((node, place))
-    }
-
     /// Whether `intern` may be called with this A-callee and these B-connections.
     pub fn is_internable(&self, a: Gid, bs: &[BConn]) -> bool
         ensures { IsTrue result ↔ IsInternable self.now a bs.now }
@@ -253,16 +244,9 @@ impl Table {
         ensures no_memory { OnErr result (self.new ≡ self.old) }
     {
         let level = a.level + 1;
-        let (node, place) = self.find(a, bs)?;
-        if let Some(at) = place {
-            return Ok(Gid {
-                level,
-                at: at as u64,
-            });
-        }
-        let exits = goodness::exits_of(self, bs)?;
-        let at = self.levels[a.level as usize].len() as u64;
-        add(&mut self.levels, a.level as usize, node, exits)?;
+        let below = a.level as usize;
+        let node = self.levels[below].pack(a.at, bs)?;
+        let at = enter(&mut self.levels, below, node, &self.book, bs)? as u64;
         Ok(Gid { level, at })
     }
 
