@@ -17,8 +17,8 @@ ghost use Rattle.cf_build.specs.Assembling.{IsRow, row_of, labels_over, classed,
 use cf_table::{Gid, Table};
 use cf_tuple::NoMemory;
 pub use label::{Label, canon_of};
-pub use rows::Rows;
 use merge::{join, merge};
+pub use rows::Rows;
 use rows::gathered;
 use std::alloc::Global;
 
