@@ -1,8 +1,10 @@
-use Rattle.std.proofs.Common.{◌+◌, ap, sym, ◌∙◌, arith}
+use Rattle.std.proofs.Common.{◌+◌, ap, sym, subst, ◌∙◌, arith}
 use Rattle.std.specs.Prelude.{Err}
 use Rattle.cf_circuits.specs.LogicalLines.{logical}
 use Rattle.cf_blif.proofs.TextFacts.{follows-line, follows-error, follows-last, follows-end, end-empty, end-some, empty_is, full_is, fault_of, refused, same_err}
 use Rattle.cf_blif.specs.declared.faults.BlifFault.TheVariants as blif
+use Rattle.cf_circuits.specs.Kept.{IsNetlist}
+use Rattle.cf_circuits.proofs.KeptLaws.{netlist-kept}
 use Rattle.cf_blif.proofs.text.read_blif.Goals as goal
 
 pub loop-rest-preserved : goal.loop-rest-preserved
@@ -43,3 +45,6 @@ returns-clause-faultless c =
     (follows-last (logical c.args.bytes.now) c.loop-rest.rest.now c.loop-rest.reader c.loop-rest.number c.loop-rest.invariant.follows
     (empty_is c.loop-rest.rest.now c.is_empty.result c.is_empty.ensures c.loop-rest-test.false))
     (λ e. full_is c.items.result.now c.is_empty-2.result c.is_empty-2.ensures c.if-is_empty.false (c.items.ensures ∙ ap (λ s. s.done) c.in_ok-close_model.ensures ∙ e))
+
+pub returns-clause-kept : goal.returns-clause-kept
+returns-clause-kept c = subst IsNetlist (sym (returns-clause-netlist c)) (netlist-kept c.args.bytes.now (returns-clause-faultless c))
