@@ -118,6 +118,20 @@ apart-nothing (name ∷ names) = apart-nothing names
 pub fresh-all : (names : List (List ℕ)) → fresh [] names ≡ all_differ names
 fresh-all names = fresh-is [] names ∙ ap (λ t. t && all_differ names) (apart-nothing names)
 
+has-formal : {A : Type 0} (f : A → List ℕ) (later : List A) (name : List ℕ)
+    → list_any (λ p. bytes_eq (formal_of (f p)) name) later ≡ list_any (λ other. bytes_eq other name) (map formal_of (map f later))
+has-formal f [] name = refl
+has-formal f (p ∷ later) name = ap (λ t. bytes_eq (formal_of (f p)) name || t) (has-formal f later name)
+
+-- a pair and those behind it
+pub few-more : {A : Type 0} (f : A → List ℕ) (all : List (List ℕ)) (later : List A) (pair name : List ℕ) (seen rest : Bool) → all ≡ pair ∷ map f later
+    → name ≡ formal_of pair → seen ≡ list_any (λ p. bytes_eq (formal_of (f p)) name) later → rest ≡ all_differ (map formal_of (map f later))
+    → (not seen && rest) ≡ all_differ (map formal_of all)
+few-more f all later pair name seen rest is e h r =
+    ap (λ b. not b && rest) (h ∙ has-formal f later name ∙ ap (has (map formal_of (map f later))) e)
+    ∙ ap (λ b. not (has (map formal_of (map f later)) (formal_of pair)) && b) r
+    ∙ sym (ap (λ ps. all_differ (map formal_of ps)) is)
+
 -- a look-up tells whether a name was seen
 pub has-some : (names : List (List ℕ)) (name : List ℕ) (n : ℕ) → Some n ≡ number_of names name → has names name ≡ true
 has-some names name n e = by (has names name) e

@@ -30,7 +30,8 @@ pub(crate) struct OpenGate {
     pub(crate) line: u64,
 }
 
-/// The models that have ended, the one that hasn't, its last gate where cover lines may follow, and all models' names.
+/// The models that have ended, the one that hasn't, its last gate where cover lines may follow, and
+/// all models' names.
 #[derive(Drop)]
 pub(crate) struct Reader {
     pub(crate) done: Models,

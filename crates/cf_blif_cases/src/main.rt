@@ -1,5 +1,5 @@
-// Reads the circuit files of standard input, and writes what each comes to. A file is what stands behind a line `== TITLE`
-// up to the next such line. Input that begins with another line is one file.
+//! Reads the circuit files of standard input, and writes what each comes to. A file is what stands behind
+//! a line `== TITLE`, up to the next such line. Input that begins with another line is one file.
 #![tactic(auto)]
 
 mod cases;

@@ -2,8 +2,9 @@
 
 ghost use Rattle.cf_circuits.specs.Kept.{NetlistsKeep};
 
-/// What a text without a fault says is a netlist: it has a root, its models' names differ, gates and calls of a model stand
-/// in order of their lines, planes are as long as their gates' inputs, and the formals of a call differ.
+/// What a text without a fault says is a netlist. It has a root, and its models' names differ. Gates
+/// and calls of a model stand in order of their lines, none on one line. A gate has at most 256
+/// inputs, and each plane a cell for each of them. The formals of a call differ.
 pub fn netlists_keep()
     ensures { NetlistsKeep }
 {}
