@@ -1,4 +1,4 @@
-use Rattle.std.proofs.Common.{◌≡◌, true, false, map, refl, ap, sym, ◌∙◌}
+use Rattle.std.proofs.Common.{true, false, map, refl, sym, ◌∙◌}
 use Rattle.cf_circuits.specs.Kinds.{formal_of}
 use Rattle.cf_circuits.specs.Causes.{all_differ}
 use Rattle.cf_blif.proofs.PairFacts.{few-more}
