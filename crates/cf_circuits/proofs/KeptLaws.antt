@@ -26,7 +26,7 @@ both true y h = (refl, h)
 both false y h = cc
 
 -- a line without a fault, and the lines behind it
-faultless-cons : (before : List Line) (l : Line) (later : List Line) → first_fault before (l ∷ later) ≡ None → (cause before l ≡ None) × (first_fault (before ++ l ∷ []) later ≡ None)
+pub faultless-cons : (before : List Line) (l : Line) (later : List Line) → first_fault before (l ∷ later) ≡ None → (cause before l ≡ None) × (first_fault (before ++ l ∷ []) later ≡ None)
 unfolding first_fault
 faultless-cons before l later h = by (cause before l) h
   where
