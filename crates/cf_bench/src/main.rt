@@ -10,10 +10,10 @@ mod script;
 
 ghost use Rattle.std.specs.Prelude.{◌≤◌, IfSome};
 
-use circuits::GateChain;
 use cf_io::{MemFiles, MemSink, MemSource};
 use cf_session::Session;
 use cf_top::run;
+use circuits::GateChain;
 use pairs::paired_projections;
 use parity::parity_of_variables;
 use parsing::{LongLine, arguments};
