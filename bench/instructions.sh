@@ -1,6 +1,6 @@
 #!/usr/bin/env bash
-# Counts the instructions of the workloads of cf_bench under callgrind, making the script included, and then those of the
-# program on the scripts of scripts.py. A program's start is taken off.
+# Counts the instructions of the workloads of cf_bench under callgrind, making the script or file included, and then those
+# of the program on the scripts of scripts.py. A program's start is taken off. `blif-text` makes the file of `blif` alone.
 set -eu
 cd "$(dirname "${BASH_SOURCE[0]}")/../crates/cf_bench"
 words=$(tr '\n' ' ' <args)
@@ -19,7 +19,8 @@ for workload in "values 100000" "names 1000" "line 4096" "line 8192" "line 16384
     "pairs 8" "pairs 16" "pairs 32" "pairs 64" "pairs 128" \
     "parity 16" "parity 32" "parity 64" "parity 128" \
     "fold 1024" "fold 8192" "fold 65536" "comment 1024" "comment 8192" "comment 65536" \
-    "nesting 1024" "nesting 8192" "nesting 65536"; do
+    "nesting 1024" "nesting 8192" "nesting 65536" \
+    "blif 100" "blif 1000" "blif 10000" "blif-text 100" "blif-text 1000" "blif-text 10000"; do
     # shellcheck disable=SC2086
     echo "$workload: $(($(instructions $workload) - base))"
 done

@@ -1,7 +1,8 @@
-// Runs named workloads of given sizes, as `values 1000 line 4096 pairs 8 parity 8 fold 1024`, and says how each
-// ended.
+// Runs named workloads of given sizes, as `values 1000 line 4096 pairs 8 parity 8 fold 1024 blif 100`, and says how
+// each ended.
 #![tactic(auto)]
 
+mod circuits;
 mod pairs;
 mod parity;
 mod parsing;
@@ -12,6 +13,7 @@ ghost use Rattle.std.specs.Prelude.{◌≤◌, IfSome};
 use cf_io::{MemFiles, MemSink, MemSource};
 use cf_session::Session;
 use cf_top::run;
+use circuits::GateChain;
 use pairs::paired_projections;
 use parity::parity_of_variables;
 use parsing::{LongLine, arguments};
@@ -70,6 +72,16 @@ fn measure_parsing(rt: &(impl Print + AllocGlobal), kind: &LongLine) -> io::Resu
     }
 }
 
+/// Makes a circuit file, reads it if the workload says so, and prints its bytes and its gates.
+fn measure_reading(rt: &(impl Print + AllocGlobal), kind: &GateChain) -> io::Result<()> {
+    let alloc = rt.alloc();
+    let text = kind.text(alloc)?;
+    match kind.gates(alloc, &text) {
+        Ok(gates) => println!(rt; "{kind} {} bytes {gates} gates", text.len()),
+        Err(fault) => println!(rt; "{kind}: {fault:?}"),
+    }
+}
+
 /// The level of so many variables, of which there are 1 to 128 and a power of two.
 fn level_of(variables: &str) -> Option<u8>
     ensures { IfSome result (λ level. level ≤ 7) }
@@ -93,6 +105,8 @@ fn main(rt: HostRuntime) -> io::Result<()> {
             measure_script(&rt, &script)?;
         } else if let Some(line) = LongLine::new(name.as_str(), size.as_str()) {
             measure_parsing(&rt, &line)?;
+        } else if let Some(chain) = GateChain::new(name.as_str(), size.as_str()) {
+            measure_reading(&rt, &chain)?;
         } else {
             println!(rt; "{name} {size} is no workload")?;
         }
