@@ -98,6 +98,12 @@ fn assembled(
 fn are_rows(table: &Table, level: u8, rows: &[(Gid, Vec<u64>)]) -> bool
     ensures { OnTrue result (All (IsRow table.now.levels level) (map listed rows.now)) }
 {
+    each_is_row(table, level, rows)
+}
+
+fn each_is_row(table: &Table, level: u8, rows: &[(Gid, Vec<u64>)]) -> bool
+    ensures { OnTrue result (All (λ row. IsRow table.now.levels level (listed row)) rows.now) }
+{
     rows.iter().all(|row| is_row(table, level, row))
 }
 
