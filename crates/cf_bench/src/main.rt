@@ -1,5 +1,5 @@
-// Runs named workloads of given sizes, as `values 1000 line 4096 pairs 8 parity 8 fold 1024 blif 100`, and says how
-// each ended.
+//! Runs named workloads of given sizes, as `values 1000 line 4096 pairs 8 parity 8 fold 1024 blif 100`, and says how
+//! each ended.
 #![tactic(auto)]
 
 mod circuits;

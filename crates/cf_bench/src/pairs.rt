@@ -1,3 +1,5 @@
+//! The products of neighbouring variables.
+
 ghost use Rattle.std.specs.Prelude.{◌≡◌, ◌<◌, ◌≤◌, All, map};
 ghost use Rattle.std.specs.Bool.{OnTrue};
 ghost use Rattle.cf_build.specs.Assembling.{IsRow, listed};

@@ -1,3 +1,5 @@
+//! The parity of all variables of a level.
+
 ghost use Rattle.std.specs.Prelude.{◌≡◌, ◌<◌, ◌≤◌, ◌^◌, IfOk};
 ghost use Rattle.cf_pkg.specs.Packages.{OwnsFunction};
 

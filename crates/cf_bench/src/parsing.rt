@@ -1,3 +1,5 @@
+//! Long lines, to be parsed alone.
+
 use cf_script::{Expr, ScriptFault, Statement, parse_line};
 use std::alloc::{AllocError, Global};
 use std::fmt;

@@ -1,3 +1,5 @@
+//! Scripts of many lines, to be run.
+
 ghost use Rattle.std.specs.Prelude.{◌≤◌};
 
 use std::alloc::{AllocError, Global};

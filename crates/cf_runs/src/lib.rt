@@ -1,4 +1,4 @@
-// Tests that cross crates: whole runs in memory, streams, and the calls that no run makes.
+//! Tests that cross crates: whole runs in memory, streams, and the calls that no run makes.
 #![tactic(auto)]
 
 #[cfg(test)]

@@ -1,4 +1,4 @@
-// Sessions: the level, the variables and the functions that the statements of a script speak of.
+//! Sessions: the level, the variables and the functions that the statements of a script speak of.
 #![tactic(auto)]
 
 mod answers;

@@ -1,4 +1,4 @@
-// A run of the program over any source, files and sink.
+//! A run of the program over any source, files and sink.
 #![tactic(auto)]
 
 mod reason;

@@ -1,3 +1,5 @@
+//! Why a line is refused: by its form, or by the session.
+
 ghost use Rattle.std.specs.Prelude.{◌≡◌, ℕ};
 ghost use Rattle.cf_reference.specs.Reasons.{number, detail};
 ghost use Rattle.cf_reference.specs.Replies.{refusal as refusal_reply};

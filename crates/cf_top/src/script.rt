@@ -1,3 +1,5 @@
+//! The lines of a script, carried out one after another.
+
 ghost use Rattle.std.specs.Prelude.{◌≡◌, ◌≢◌, ℕ, ◌+◌, ◌≤◌, List, [], ◌∷◌, ◌++◌, IsTrue, true, false};
 ghost use Rattle.cf_io.specs.Causes.{Rose};
 ghost use Rattle.cf_reference.specs.Trees.{Formed};

@@ -1,4 +1,4 @@
-// Least assignments, the first difference of two functions, and the assignments of a value in order.
+//! Least assignments, the first difference of two functions, and the assignments of a value in order.
 #![tactic(auto)]
 
 mod listing;

@@ -1,4 +1,4 @@
-// The program: a script from standard input, replies to standard output, and an exit status.
+//! The program: a script from standard input, replies to standard output, and an exit status.
 #![tactic(auto)]
 
 use cf_io::{HostSink, HostSource, MemFiles};
