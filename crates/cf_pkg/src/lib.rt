@@ -1,4 +1,4 @@
-//! Functions with integer values, each of one representative.
+// Functions with integer values, each of one representative.
 #![tactic(auto)]
 
 mod basics;
