@@ -1,5 +1,5 @@
 #!/usr/bin/env bash
-# Runs the gate's proofs, edits and tests from nothing (`rt ci`), and prints the minutes they took: of the clock, of the
+# Runs the gate's proofs, edits and tests from nothing (`rt ci`, with --anew where the kit keeps what has passed), and prints the minutes they took: of the clock, of the
 # processors, and of the processors by crate: its proof, its tests and its must-fail edits.
 #
 #     bench/gate_minutes.sh [LOG]      what `rt ci` prints goes to LOG (out/gate.log), the table to standard output
@@ -48,7 +48,10 @@ seconds = collections.defaultdict(dict)
 known = {}
 began = time.monotonic()
 with open(sys.argv[1], "w") as log:
-    gate = subprocess.Popen(["rt", "ci"], stdout=log, stderr=subprocess.STDOUT, stdin=subprocess.DEVNULL)
+    words = ["rt", "ci"]
+    if "--anew" in subprocess.run(["rt", "help"], capture_output=True, text=True).stdout:
+        words.append("--anew")
+    gate = subprocess.Popen(words, stdout=log, stderr=subprocess.STDOUT, stdin=subprocess.DEVNULL)
     while gate.poll() is None:
         below = {os.getpid()}
         for pid, parent, taken in sorted(processes()):
