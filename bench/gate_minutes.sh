@@ -1,6 +1,7 @@
 #!/usr/bin/env bash
-# Runs the gate's proofs, edits and tests from nothing (`rt ci`, with --anew where the kit keeps what has passed), and prints the minutes they took: of the clock, of the
-# processors, and of the processors by crate: its proof, its tests and its must-fail edits.
+# Runs the gate's proofs, edits and tests from nothing (`rt ci`, with --anew where the kit keeps what has passed), and
+# prints the minutes they took: of the clock, of the processors, and of the processors by crate: its proof, its tests and
+# its must-fail edits.
 #
 #     bench/gate_minutes.sh [LOG]      what `rt ci` prints goes to LOG (out/gate.log), the table to standard output
 #
@@ -49,7 +50,8 @@ known = {}
 began = time.monotonic()
 with open(sys.argv[1], "w") as log:
     words = ["rt", "ci"]
-    if "--anew" in subprocess.run(["rt", "help"], capture_output=True, text=True).stdout:
+    said = subprocess.run(["rt", "help"], stdout=subprocess.PIPE, stderr=subprocess.STDOUT, text=True).stdout
+    if "--anew" in said:
         words.append("--anew")
     gate = subprocess.Popen(words, stdout=log, stderr=subprocess.STDOUT, stdin=subprocess.DEVNULL)
     while gate.poll() is None:
