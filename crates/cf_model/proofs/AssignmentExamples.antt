@@ -1,5 +1,7 @@
-use Rattle.std.proofs.Common.{◌≡◌, true, false, [], ◌∷◌, Some, None, refl, inl, inr}
+use Rattle.std.proofs.Common.{◌≡◌, true, false, [], ◌∷◌, Some, None, refl, sym, inl, inr}
 use Rattle.std.specs.Prelude.{codes}
+use Rattle.std.specs.List.{repeat}
+use Rattle.std.proofs.lemmas.Bool.{false≢true}
 use Rattle.cf_model.specs.Assignments.{number_of, bits_of, bits, digit_of, digits_of, are_digits, bits_of_text, first_half, second_half, weave, row_of, column_of, unweave, bit_at, with_bit, is_less, IsLexBefore, all_bits}
 
 -- the first bit is the highest: 100 has number 4, and 001 has number 1
@@ -50,6 +52,16 @@ text_02 = refl
 text_empty : bits_of_text [] ≡ None
 text_empty = refl
 
+-- a text has 1 to 128 digits
+text_1 : bits_of_text (codes "1") ≡ Some (true ∷ [])
+text_1 = refl
+
+text_of_128_digits : bits_of_text (repeat 64 (codes "01")) ≡ Some (repeat 64 (false ∷ true ∷ []))
+text_of_128_digits = refl
+
+text_of_129_digits : bits_of_text (repeat 43 (codes "011")) ≡ None
+text_of_129_digits = refl
+
 first_half_of_0110 : first_half (false ∷ true ∷ true ∷ false ∷ []) ≡ false ∷ true ∷ []
 first_half_of_0110 = refl
 
@@ -93,6 +105,10 @@ bit_0_of_10 = refl
 bit_1_of_10 : bit_at (true ∷ false ∷ []) 1 ≡ false
 bit_1_of_10 = refl
 
+-- past the last bit there is none that is 1
+bit_past : bit_at (true ∷ []) 1 ≡ false
+bit_past = refl
+
 with_bit_0 : with_bit (false ∷ false ∷ []) 0 true ≡ true ∷ false ∷ []
 with_bit_0 = refl
 
@@ -110,6 +126,20 @@ lex_01_10 = inl (refl, refl)
 
 lex_10_11 : IsLexBefore (true ∷ false ∷ []) (true ∷ true ∷ [])
 lex_10_11 = inr (refl, inl (refl, refl))
+
+-- neither the greater one before the smaller, nor a list before itself
+lex_not_11_10 : IsLexBefore (true ∷ true ∷ []) (true ∷ false ∷ []) → ⊥
+lex_not_11_10 h = elim h [
+  | inl e ↦ false≢true (sym e.0)
+  | inr r ↦ elim r.1 [ inl e ↦ false≢true (sym e.0) | inr s ↦ false≢true (sym s.0) ]
+]
+
+lex_not_itself : IsLexBefore (true ∷ []) (true ∷ []) → ⊥
+lex_not_itself h = elim h [ inl e ↦ false≢true (sym e.0) | inr r ↦ r.1 ]
+
+-- a list comes before the lists that it begins
+lex_front : IsLexBefore (true ∷ []) (true ∷ false ∷ [])
+lex_front = inr (refl, tt)
 
 -- lists of two lengths: 011 comes before 10, though its number is greater
 lex_before_of_lengths : IsLexBefore (false ∷ true ∷ true ∷ []) (true ∷ false ∷ [])

@@ -1,9 +1,11 @@
-use Rattle.std.proofs.Common.{ℕ, List, length, ◌≡◌, ℕ, zero, suc, ◌<◌, List, [], ◌∷◌, refl, ap, arith}
-use Rattle.cf_model.specs.Patterns.{sub, cut_into}
+use Rattle.std.proofs.Common.{ℕ, List, length, ◌≡◌, zero, suc, ◌<◌, [], ◌∷◌, ◌++◌, get_or, refl, sym, ap, arith}
+use Rattle.cf_model.specs.Patterns.{a_pattern, sub, cut_into}
 use Rattle.cf_model.specs.Diagrams.{Levels, Connection, Node, no_connection, no_node, exit_at, connection_at, nodes, count, node, row, spell, pattern, all_returns, exits, IsGoodConnection, IsGoodNode, IsGood, Extends, with_node, HasPattern, HasPatterns}
 use Rattle.cf_model.proofs.GoodnessFacts.{TwoBaseGroupings, ACalleesExist, MiddlesMatchExits, BCalleesExist, EntriesMatchExits, NoEntryTwice, FirstReach, NoEqualConnections, NoEqualNodes, broken_facts, good_from_tests}
 use Rattle.std.specs.Prelude.{◌^◌}
+use Rattle.std.specs.List.{repeat}
 use Rattle.cf_model.proofs.Canonicity.{pattern_full}
+use Rattle.cf_model.proofs.Callees.{a_law}
 use Rattle.cf_model.proofs.Growing.{with_node_extends}
 
 -- the places of the two groupings of level 0
@@ -68,6 +70,21 @@ pattern_of_dont_care = refl
 pattern_of_fork : pattern four 0 fork ≡ 0 ∷ 1 ∷ []
 unfolding pattern
 pattern_of_fork = refl
+
+-- A grouping of level 2 over the four: the conjunction leads 00, 01 and 10 to the first variable, and 11 to the exclusive
+-- or, whose exits return to 1 and 2.
+abbrev five : Levels
+five = four ++ (grouping 2 (to 1 (0 ∷ 1 ∷ []) ∷ to 3 (1 ∷ 2 ∷ []) ∷ []) ∷ []) ∷ []
+
+five_are_good : IsGood five
+five_are_good = good_from_tests five refl
+
+pattern_of_level_2 : pattern five 2 0 ≡ 0 ∷ 0 ∷ 1 ∷ 1 ∷ 0 ∷ 0 ∷ 1 ∷ 1 ∷ 0 ∷ 0 ∷ 1 ∷ 1 ∷ 1 ∷ 2 ∷ 2 ∷ 1 ∷ []
+unfolding pattern
+pattern_of_level_2 = refl
+
+exits_of_level_2 : exits five 2 0 ≡ 3
+exits_of_level_2 = refl
 
 -- the words for the parts of a table
 count_of_level_1 : count four 1 ≡ 4
@@ -225,12 +242,36 @@ four_have_01 : HasPattern four (record { level = 0; ranks = 0 ∷ 1 ∷ [] })
 unfolding pattern
 four_have_01 = (fork, omega arith, refl)
 
-four_have_nothing : HasPatterns four []
-four_have_nothing = tt
+-- none of the four is the disjunction
+four_lack_0111 : HasPattern four (record { level = 1; ranks = 0 ∷ 1 ∷ 1 ∷ 1 ∷ [] }) → ⊥
+unfolding pattern
+four_lack_0111 h = by h.0 h.1 h.2
+  where
+    by : (i : ℕ) → i < 4 → pattern four 1 i ≡ 0 ∷ 1 ∷ 1 ∷ 1 ∷ [] → ⊥
+    by zero l e = omega (arith, ap (λ (ranks : List ℕ). get_or ranks 2 0) e)
+    by (suc zero) l e = omega (arith, ap (λ (ranks : List ℕ). get_or ranks 1 0) e)
+    by (suc (suc zero)) l e = omega (arith, ap (λ (ranks : List ℕ). get_or ranks 1 0) e)
+    by (suc (suc (suc zero))) l e = omega (arith, ap (λ (ranks : List ℕ). get_or ranks 3 0) e)
+    by (suc (suc (suc (suc i)))) l e = omega (arith, l)
 
 -- a grouping of level 7: its pattern of 2^128 entries is never made
 pattern_of_level_7 : (t : Levels) → IsGood t → (i : ℕ) → i < count t 7 → length (pattern t 7 i) ≡ 2 ^ 128
 pattern_of_level_7 t g i h = pattern_full t g 7 i h
+
+-- the constants of a level at place 0, and its first variable at place 1, over a level with the same two
+abbrev pub constant_and_first : List Node
+constant_and_first = grouping 0 (to 0 (0 ∷ []) ∷ []) ∷ grouping 1 (to 0 (0 ∷ []) ∷ to 0 (1 ∷ []) ∷ []) ∷ []
+
+-- a table with these two groupings on each level
+abbrev pub two_a_level : Levels
+two_a_level = (no_node ∷ no_node ∷ []) ∷ repeat 7 (constant_and_first ∷ [])
+
+two_a_level_are_good : IsGood two_a_level
+two_a_level_are_good = good_from_tests two_a_level refl
+
+-- The A-pattern of the first variable of level 7 is the first variable of level 6: its 2^64 rows are never made.
+a_pattern_of_level_7 : a_pattern 6 (pattern two_a_level 7 1) ≡ pattern two_a_level 6 1
+a_pattern_of_level_7 = sym (a_law two_a_level two_a_level_are_good 6 1 (omega arith))
 
 four_have_its_parts : HasPatterns four (sub 1 (0 ∷ 0 ∷ 0 ∷ 1 ∷ []))
 unfolding pattern sub cut_into

@@ -1,6 +1,7 @@
 use Rattle.std.proofs.Common.{List, Bool, length, ◌≡◌, ◌^◌, ◌-◌, pos, negsuc, true, false, [], ◌∷◌, Some, None, refl, arith, rules}
-use Rattle.std.specs.Prelude.{length, if◌then◌else◌}
+use Rattle.std.specs.Prelude.{length, if◌then◌else◌, All}
 use Rattle.std.specs.Ordering.{int_eq}
+use Rattle.std.proofs.lemmas.List.Elements.{All-map}
 use Rattle.cf_model.proofs.FlatFunctionLaws.{tabulated-full, tabulated-value}
 use Rattle.cf_model.specs.Assignments.{number_of, bit_at, all_bits}
 use Rattle.cf_model.specs.Values.{Fits, fits, fitting, and_then}
@@ -22,8 +23,11 @@ fits_not_below = refl
 greatest_fits : Fits (pos (2 ^ 127 - 1))
 greatest_fits = search rules
 
-above_does_not : Fits (pos (2 ^ 127)) → ⊥
+pub above_does_not : Fits (pos (2 ^ 127)) → ⊥
 above_does_not h = search rules
+
+below_does_not : Fits (negsuc (2 ^ 127)) → ⊥
+below_does_not h = search rules
 
 fitting_7 : fitting (pos 7) ≡ Some (pos 7)
 fitting_7 = refl
@@ -63,6 +67,36 @@ five_at_10 = record { level = 1; values = pos 7 ∷ pos 7 ∷ pos 5 ∷ pos 7 �
 
 five_at_10_is_flat : IsFlatFunction five_at_10
 five_at_10_is_flat = record { level_in = omega arith; full = refl; fit = search rules }
+
+-- Levels end at 7: at level 8 this list is full, its values fit, and the level alone is too high.
+abbrev zero_of_level_8 : FlatFunction
+zero_of_level_8 = tabulated 8 (λ bits. pos 0)
+
+zero_fits : Fits (pos 0)
+zero_fits = search rules
+
+full_at_level_8 : (length zero_of_level_8.values ≡ points 8) × All Fits zero_of_level_8.values
+full_at_level_8 = (tabulated-full 8 (λ bits. pos 0), All-map Fits (λ bits. pos 0) (all_bits (2 ^ 8)) (λ k d inside. zero_fits))
+
+too_high : IsFlatFunction zero_of_level_8 → ⊥
+too_high h = omega (arith, h.level_in)
+
+highest_is_flat : IsFlatFunction (tabulated 7 (λ bits. pos 0))
+highest_is_flat = record {
+  level_in = omega arith;
+  full = tabulated-full 7 (λ bits. pos 0);
+  fit = All-map Fits (λ bits. pos 0) (all_bits (2 ^ 7)) (λ k d inside. zero_fits);
+}
+
+-- Values fit: one alone, past either edge, is too large.
+too_large : IsFlatFunction (record { level = 0; values = pos 0 ∷ pos (2 ^ 127) ∷ [] }) → ⊥
+too_large h = above_does_not (h.fit 1 (pos 0) (omega arith))
+
+too_small : IsFlatFunction (record { level = 0; values = negsuc (2 ^ 127) ∷ pos 0 ∷ [] }) → ⊥
+too_small h = below_does_not (h.fit 0 (pos 0) (omega arith))
+
+edges_are_flat : IsFlatFunction (record { level = 0; values = pos (2 ^ 127 - 1) ∷ negsuc (2 ^ 127 - 1) ∷ [] })
+edges_are_flat = record { level_in = omega arith; full = refl; fit = search rules }
 
 -- level 1 has four values, and not two
 too_short : IsFlatFunction (record { level = 1; values = pos 0 ∷ pos 1 ∷ [] }) → ⊥

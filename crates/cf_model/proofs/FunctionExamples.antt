@@ -1,9 +1,10 @@
-use Rattle.std.proofs.Common.{◌≡◌, ℕ, zero, suc, ℤ, pos, true, [], ◌∷◌, Some, refl, arith, rules}
+use Rattle.std.proofs.Common.{◌≡◌, ℕ, zero, suc, ◌^◌, ℤ, pos, true, [], ◌∷◌, Some, refl, arith, rules}
 use Rattle.std.specs.Prelude.{slice_get}
 use Rattle.cf_model.specs.FlatFunctions.{value_at}
 use Rattle.cf_model.specs.Diagrams.{pattern}
 use Rattle.cf_model.specs.Functions.{IsFunction, function_of}
 use Rattle.cf_model.proofs.DiagramExamples.{four, dont_care, fork}
+use Rattle.cf_model.proofs.FlatFunctionExamples.{above_does_not}
 
 -- 7 where both variables are 1, and 5 elsewhere
 values_of_conjunction : function_of four 1 2 (pos 5 ∷ pos 7 ∷ []) ≡ record { level = 1; values = pos 5 ∷ pos 5 ∷ pos 5 ∷ pos 7 ∷ [] }
@@ -34,6 +35,13 @@ constant_is_function = record { exists = omega arith; valued = refl; differ = λ
 -- two exits with one value: the constant 9 would have two groupings
 equal_values : IsFunction four 0 fork (pos 9 ∷ pos 9 ∷ []) → ⊥
 equal_values f = omega (arith, f.differ 0 1 (pos 9) refl refl)
+
+-- a grouping that isn't there: level 0 has two
+no_grouping : IsFunction four 0 2 (pos 5 ∷ pos 7 ∷ []) → ⊥
+no_grouping f = omega (arith, f.exists)
+
+value_too_large : IsFunction four 0 dont_care (pos (2 ^ 127) ∷ []) → ⊥
+value_too_large f = above_does_not (f.fit 0 (pos 0) (omega arith))
 
 value_missing : IsFunction four 0 fork (pos 9 ∷ []) → ⊥
 value_missing f = omega (arith, f.valued)

@@ -73,8 +73,8 @@ added_out_of_order = refl
 scaled_by_2 : scaled 2 two_pairs ≡ ((0, 1), 2) ∷ ((1, 0), 6) ∷ []
 scaled_by_2 = refl
 
-scaled_by_1 : scaled 1 two_pairs ≡ two_pairs
-scaled_by_1 = refl
+scaled_by_3 : scaled 3 (((2, 1), 5) ∷ []) ≡ ((2, 1), 15) ∷ []
+scaled_by_3 = refl
 
 relabelled_pair_01 : relabelled_pair (7 ∷ 8 ∷ []) (5 ∷ 6 ∷ []) ((0, 1), 3) ≡ ((7, 6), 3)
 relabelled_pair_01 = refl

@@ -1,8 +1,6 @@
-use Rattle.std.proofs.Common.{ℕ, List, length, ◌≡◌, pos, true, false, [], ◌∷◌, refl}
-use Rattle.std.specs.Prelude.{length, ◌^◌}
+use Rattle.std.proofs.Common.{◌≡◌, pos, true, false, [], ◌∷◌, refl}
 use Rattle.cf_model.specs.Assignments.{all_bits}
-use Rattle.cf_model.proofs.PatternLaws.{length-a_pattern}
-use Rattle.cf_model.specs.FlatFunctions.{variable}
+use Rattle.cf_model.specs.FlatFunctions.{FlatFunction, variable}
 use Rattle.cf_model.specs.Patterns.{Pattern, pattern_of, same_ranks, same_pattern, cut_into, rows, distinct_rows, a_pattern, b_patterns, return_lists, sub, subs, size_at, sizes, node_work, work_size}
 
 -- the conjunction of two variables
@@ -112,14 +110,53 @@ sizes_twice : sizes (p0001 ∷ p0001 ∷ []) ≡ 2 ∷ 1 ∷ 0 ∷ 0 ∷ 0 ∷ 0
 unfolding sub cut_into
 sizes_twice = refl
 
+-- no function has no pattern
+sizes_of_none : sizes [] ≡ 0 ∷ 0 ∷ 0 ∷ 0 ∷ 0 ∷ 0 ∷ 0 ∷ 0 ∷ []
+sizes_of_none = refl
+
+-- Level 2: rows have four entries. Those of this pattern are 0000, 0101, 0000 again and 1022.
+abbrev of_level_2 : Pattern
+of_level_2 = record { level = 2; ranks = 0 ∷ 0 ∷ 0 ∷ 0 ∷ 0 ∷ 1 ∷ 0 ∷ 1 ∷ 0 ∷ 0 ∷ 0 ∷ 0 ∷ 1 ∷ 0 ∷ 2 ∷ 2 ∷ [] }
+
+abbrev with_three_values : FlatFunction
+with_three_values = record {
+  level = 2;
+  values = pos 9 ∷ pos 9 ∷ pos 9 ∷ pos 9 ∷ pos 9 ∷ pos 4 ∷ pos 9 ∷ pos 4 ∷ pos 9 ∷ pos 9 ∷ pos 9 ∷ pos 9 ∷ pos 4 ∷ pos 9 ∷ pos 5 ∷ pos 5 ∷ [];
+}
+
+pattern_of_three_values : pattern_of with_three_values ≡ of_level_2
+pattern_of_three_values = refl
+
+rows_of_level_2 : rows 1 of_level_2.ranks ≡ (0 ∷ 0 ∷ 0 ∷ 0 ∷ []) ∷ (0 ∷ 1 ∷ 0 ∷ 1 ∷ []) ∷ (0 ∷ 0 ∷ 0 ∷ 0 ∷ []) ∷ (1 ∷ 0 ∷ 2 ∷ 2 ∷ []) ∷ []
+unfolding cut_into
+rows_of_level_2 = refl
+
+a_pattern_of_level_2 : a_pattern 1 of_level_2.ranks ≡ 0 ∷ 1 ∷ 0 ∷ 2 ∷ []
+unfolding cut_into
+a_pattern_of_level_2 = refl
+
+b_patterns_of_level_2 : b_patterns 1 of_level_2.ranks ≡ (0 ∷ 0 ∷ 0 ∷ 0 ∷ []) ∷ (0 ∷ 1 ∷ 0 ∷ 1 ∷ []) ∷ (0 ∷ 1 ∷ 2 ∷ 2 ∷ []) ∷ []
+unfolding cut_into
+b_patterns_of_level_2 = refl
+
+return_lists_of_level_2 : return_lists 1 of_level_2.ranks ≡ (0 ∷ []) ∷ (0 ∷ 1 ∷ []) ∷ (1 ∷ 0 ∷ 2 ∷ []) ∷ []
+unfolding cut_into
+return_lists_of_level_2 = refl
+
+-- on level 1 its A-pattern 0102 and its three B-patterns, on level 0 the patterns 00 and 01
+sizes_of_level_2 : sizes (of_level_2 ∷ []) ≡ 2 ∷ 4 ∷ 1 ∷ 0 ∷ 0 ∷ 0 ∷ 0 ∷ 0 ∷ []
+unfolding sub cut_into
+sizes_of_level_2 = refl
+
+-- 4 for the pattern, 3, 2, 2 and 3 for 0102, 0000, 0101 and 0122, and 1 for each of 00 and 01
+work_size_of_level_2 : work_size of_level_2 ≡ 16
+unfolding sub cut_into
+work_size_of_level_2 = refl
+
 -- variable 5 of the eight of level 3
 sizes_variable_5 : sizes (pattern_of (variable 3 5) ∷ []) ≡ 2 ∷ 2 ∷ 2 ∷ 1 ∷ 0 ∷ 0 ∷ 0 ∷ 0 ∷ []
 unfolding all_bits sub cut_into
 sizes_variable_5 = refl
-
--- a pattern of level 7: its 2^64 rows are never made
-a_pattern_of_level_7 : (p : List ℕ) → length (a_pattern 6 p) ≡ 2 ^ 64
-a_pattern_of_level_7 p = length-a_pattern 6 p
 
 node_work_01 : node_work 0 (0 ∷ 1 ∷ []) ≡ 1
 node_work_01 = refl

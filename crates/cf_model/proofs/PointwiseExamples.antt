@@ -3,7 +3,7 @@ use Rattle.cf_model.specs.Assignments.{number_of, with_bit, all_bits}
 use Rattle.cf_model.specs.Terms.{term, terms}
 use Rattle.cf_model.specs.Pointwise.{applied, restricted}
 use Rattle.cf_model.specs.declared.terms.Word2.TheVariants.{Plus, Times}
-use Rattle.cf_model.specs.declared.terms.Term.{Term, X, Y, Fold}
+use Rattle.cf_model.specs.declared.terms.Term.{Term, X, Y, Z, Fold, Ite}
 use Rattle.std.proofs.lemmas.List.{set-set, length-set, set_comm}
 use Rattle.std.specs.Prelude.{◌≢◌}
 
@@ -24,6 +24,11 @@ past_the_edge : applied (Fold Plus (X ∷ Y ∷ [])) numbered (λ bits. pos (2 ^
 unfolding term terms Rattle.cf_model.specs.declared.terms.Term.TheBlock.hidden-the_row-Term-1 denote.Hole.Carrier.hidden
 past_the_edge = refl
 
+-- the functions keep their order: 5 where the first one isn't 0, else 6
+chosen_at_each : map (applied (Ite X Y Z) numbered (λ bits. pos 5) (λ bits. pos 6)) (all_bits 1) ≡ Some (pos 6) ∷ Some (pos 5) ∷ []
+unfolding term terms Rattle.cf_model.specs.declared.terms.Term.TheBlock.hidden-the_row-Term-1 denote.Hole.Carrier.hidden all_bits
+chosen_at_each = refl
+
 -- bit 0 set to 1: the restriction has the level of the function, and doesn't read the bit any more
 first_bit_set : map (restricted numbered 0 true) (all_bits 2) ≡ pos 2 ∷ pos 3 ∷ pos 2 ∷ pos 3 ∷ []
 unfolding all_bits
@@ -32,6 +37,10 @@ first_bit_set = refl
 last_bit_clear : map (restricted numbered 1 false) (all_bits 2) ≡ pos 0 ∷ pos 0 ∷ pos 2 ∷ pos 2 ∷ []
 unfolding all_bits
 last_bit_clear = refl
+
+-- bits are counted from the first one: bit 1 of four is the second highest, 4 in the number
+second_bit_set : restricted numbered 1 true (true ∷ false ∷ false ∷ true ∷ []) ≡ pos 13
+second_bit_set = refl
 
 -- a second restriction of one bit changes nothing
 pub restricted_twice : {A : Type 0} (f : List Bool → A) (i : ℕ) (b c : Bool) (bits : List Bool) → restricted (restricted f i b) i c bits ≡ restricted f i b bits

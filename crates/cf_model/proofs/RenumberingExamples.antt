@@ -1,4 +1,4 @@
-use Rattle.std.proofs.Common.{◌≡◌, ℕ, zero, suc, ◌+◌, ◌*◌, Bool, true, false, [], ◌∷◌, nat_eq, refl, arith}
+use Rattle.std.proofs.Common.{◌≡◌, ℕ, zero, suc, ◌+◌, ◌*◌, Bool, true, false, List, [], ◌∷◌, get_or, Option, None, nat_eq, refl, ap, arith}
 use Rattle.std.proofs.lemmas.Option.{same_Some}
 use Rattle.cf_model.specs.Renumbering.{width, Grows, IsApart, Agree, AllDiffer, IsNew, place, note, rgs_on, distinct_on, rgs, distinct, canon, IsCanon, SamePlaces}
 
@@ -112,6 +112,14 @@ is_canon_7_5_7 = record { spells = refl; grows = (omega arith, (omega arith, (om
 -- labels in another order are no canon, though they spell the list
 no_canon_5_7 : IsCanon {A = ℕ} (7 ∷ 5 ∷ 7 ∷ []) (1 ∷ 0 ∷ 1 ∷ []) (5 ∷ 7 ∷ []) → ⊥
 no_canon_5_7 c = omega (arith, c.grows.0)
+
+-- ranks that lead to other labels
+no_canon_of_another : IsCanon {A = ℕ} (5 ∷ 7 ∷ []) (0 ∷ 1 ∷ []) (7 ∷ 5 ∷ []) → ⊥
+no_canon_of_another c = omega (arith, same_Some 7 5 (ap (λ (labels : List (Option ℕ)). get_or labels 0 None) c.spells))
+
+-- a label that is listed twice
+no_canon_twice : IsCanon {A = ℕ} (7 ∷ 7 ∷ []) (0 ∷ 1 ∷ []) (7 ∷ 7 ∷ []) → ⊥
+no_canon_twice c = omega (arith, c.differ 0 1 7 refl refl)
 
 -- a label too many isn't reached
 no_canon_unreached : IsCanon {A = ℕ} (7 ∷ []) (0 ∷ []) (7 ∷ 5 ∷ []) → ⊥

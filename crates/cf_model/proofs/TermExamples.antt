@@ -37,11 +37,36 @@ neg_least = refl
 and_2_3 : value2 And (pos 2) (pos 3) ≡ Some (pos 1)
 and_2_3 = refl
 
+-- And isn't Or: one that is true isn't enough
+and_2_0 : value2 And (pos 2) (pos 0) ≡ Some (pos 0)
+and_2_0 = refl
+
+and_0_3 : value2 And (pos 0) (pos 3) ≡ Some (pos 0)
+and_0_3 = refl
+
 or_0_3 : value2 Or (pos 0) (pos 3) ≡ Some (pos 1)
 or_0_3 = refl
 
+or_2_0 : value2 Or (pos 2) (pos 0) ≡ Some (pos 1)
+or_2_0 = refl
+
+-- Or isn't Xor: both are true
+or_2_3 : value2 Or (pos 2) (pos 3) ≡ Some (pos 1)
+or_2_3 = refl
+
+-- Or isn't 1
+or_0_0 : value2 Or (pos 0) (pos 0) ≡ Some (pos 0)
+or_0_0 = refl
+
 xor_2_3 : value2 Xor (pos 2) (pos 3) ≡ Some (pos 0)
 xor_2_3 = refl
+
+-- Xor isn't 0: exactly one is true, whichever it is
+xor_2_0 : value2 Xor (pos 2) (pos 0) ≡ Some (pos 1)
+xor_2_0 = refl
+
+xor_0_3 : value2 Xor (pos 0) (pos 3) ≡ Some (pos 1)
+xor_0_3 = refl
 
 plus_2_3 : value2 Plus (pos 2) (pos 3) ≡ Some (pos 5)
 plus_2_3 = refl
@@ -65,15 +90,35 @@ times_least = refl
 min_of_signs : value2 Min (negsuc 4) (pos 3) ≡ Some (negsuc 4)
 min_of_signs = refl
 
+-- Min isn't its first
+min_second : value2 Min (pos 3) (negsuc 4) ≡ Some (negsuc 4)
+min_second = refl
+
 max_of_signs : value2 Max (negsuc 4) (pos 3) ≡ Some (pos 3)
 max_of_signs = refl
+
+-- Max isn't its second
+max_first : value2 Max (pos 3) (negsuc 4) ≡ Some (pos 3)
+max_first = refl
 
 -- equal as numbers, and not as truths
 eq_2_3 : value2 Eq (pos 2) (pos 3) ≡ Some (pos 0)
 eq_2_3 = refl
 
+-- Eq isn't 0
+eq_3_3 : value2 Eq (pos 3) (pos 3) ≡ Some (pos 1)
+eq_3_3 = refl
+
 lt_of_signs : value2 Lt (negsuc 4) (pos 3) ≡ Some (pos 1)
 lt_of_signs = refl
+
+-- Lt isn't at most
+lt_itself : value2 Lt (pos 3) (pos 3) ≡ Some (pos 0)
+lt_itself = refl
+
+-- nor is it unequal
+lt_turned : value2 Lt (pos 3) (negsuc 4) ≡ Some (pos 0)
+lt_turned = refl
 
 joined_values : joined Plus (Some (pos 2)) (Some (pos 3)) ≡ Some (pos 5)
 joined_values = refl
@@ -104,6 +149,10 @@ folded_step = refl
 
 chosen_second : chosen (Some (negsuc 0)) (Some (pos 5)) (Some (pos 6)) ≡ Some (pos 5)
 chosen_second = refl
+
+-- a choice isn't its second value
+chosen_third : chosen (Some (pos 0)) (Some (pos 5)) (Some (pos 6)) ≡ Some (pos 6)
+chosen_third = refl
 
 -- also the value that isn't chosen has to be there
 chosen_none : chosen (Some (pos 1)) (Some (pos 5)) None ≡ None
