@@ -1,13 +1,14 @@
 -- The grammar on worked lines.
-use Rattle.std.proofs.Common.{◌≡◌, ◌∷◌, ◌++◌, [], true, false, refl, Some, None, arith}
+use Rattle.std.proofs.Common.{◌≡◌, ◌^◌, ◌∷◌, ◌++◌, [], true, false, refl, Some, None, arith}
 use Rattle.std.specs.Prelude.{ℕ, List, codes, pos, negsuc}
-use Rattle.cf_model.specs.declared.terms.Word1.TheVariants.{Not}
-use Rattle.cf_model.specs.declared.terms.Word2.TheVariants.{And, Minus, Plus}
+use Rattle.std.specs.List.{repeat}
+use Rattle.cf_model.specs.declared.terms.Word1.TheVariants.{Not, Neg}
+use Rattle.cf_model.specs.declared.terms.Word2.TheVariants.{And, Or, Xor, Plus, Minus, Times, Min, Max, Eq, Lt}
 use Rattle.cf_reference.specs.declared.grammar.Keyword.TheVariants as keyword
 use Rattle.cf_reference.specs.Words.{before_comment, words, words_of_line, open_sign, close_sign, comma, natural, number, place, is_name, is_bits, behind_run, behind_word}
-use Rattle.cf_reference.specs.declared.grammar.Head.TheVariants.{Const, One, Fold}
+use Rattle.cf_reference.specs.declared.grammar.Head.TheVariants.{Const, One, Fold, Ite}
 use Rattle.cf_reference.specs.Heads.{AVariable, ABit, head_of, takes}
-use Rattle.cf_reference.specs.Trees.{Variable, Position, Number, Num, At, Named, Call, none, more, atom, depth, statement_fits, Empty, Level, Vars, Let, Value}
+use Rattle.cf_reference.specs.Trees.{Variable, Position, Number, Num, At, Named, Call, none, more, atom, depth, statement_fits, Empty, Level, Vars, Let, Value, First, Listed}
 use Rattle.cf_reference.specs.Grammar.{keyword_of, leaf, atom_of, Spells}
 use Rattle.cf_reference.specs.LineRefusals.{IsDeep, Good, Malformed, WideNumber, TooDeep}
 use Rattle.cf_reference.specs.Parsing.{readers, statement_at, is_deep, parse}
@@ -31,6 +32,16 @@ vertical_tab : words (97 ∷ 11 ∷ 98 ∷ []) ≡ (97 ∷ 11 ∷ 98 ∷ []) ∷
 unfolding words
 vertical_tab = refl
 
+-- a carriage return is one
+carriage_return : words (codes "stats" ++ 13 ∷ []) ≡ codes "stats" ∷ []
+unfolding words
+carriage_return = refl
+
+-- a name begins with a letter or `_`, and goes on with most signs
+names : (is_name (codes "_1") ≡ true) × (is_name (codes "a-b+c'") ≡ true) × (is_name (codes "1a") ≡ false) × (is_name (codes "-a") ≡ false)
+unfolding is_name
+names = (refl, refl, refl, refl)
+
 -- words that are none of the grammar's
 no_leaves : (leaf (codes "1a") ≡ None) × (leaf (codes "@0x") ≡ None) × (leaf (codes "@0@1") ≡ None) × (leaf (codes "a@0") ≡ None) × (leaf (codes "-") ≡ None) × (leaf (97 ∷ 128 ∷ []) ≡ None)
 unfolding leaf number place natural is_name
@@ -44,6 +55,15 @@ leaves = (refl, refl, refl, refl)
 wide : (leaf (codes "170141183460469231731687303715884105728") ≡ Some (Num (pos 170141183460469231731687303715884105728))) × (statement_fits (Level (pos 170141183460469231731687303715884105728)) ≡ false)
 unfolding leaf number natural
 wide = (refl, refl)
+
+-- numbers and BITS of more than 128 digits
+long_words : (number (repeat 129 (codes "0") ++ codes "7") ≡ Some (pos 7)) × (is_bits (repeat 129 (codes "1")) ≡ true)
+unfolding number natural is_bits
+long_words = (refl, refl)
+
+-- each number of a statement has to fit
+wide_numbers : (statement_fits (First (codes "f") (pos (2 ^ 127))) ≡ false) × (statement_fits (Listed (codes "f") (pos (2 ^ 127)) (pos 1)) ≡ false) × (statement_fits (Listed (codes "f") (pos 1) (pos (2 ^ 127))) ≡ false)
+wide_numbers = (refl, refl, refl)
 
 no_bits : is_bits (codes "012") ≡ false
 unfolding is_bits
@@ -103,13 +123,28 @@ let_call = record {
 arguments : (takes (Fold And) 1 ≡ false) × (takes (Fold And) 3 ≡ true) × (takes (Fold Minus) 3 ≡ false)
 arguments = (refl, refl, refl)
 
+two_arguments : (takes (Fold Eq) 2 ≡ true) × (takes (Fold Eq) 3 ≡ false) × (takes (Fold Lt) 2 ≡ true) × (takes (Fold Lt) 3 ≡ false)
+two_arguments = (refl, refl, refl, refl)
+
+other_arguments : (takes Const 1 ≡ false) × (takes (One Not) 2 ≡ false) × (takes Ite 2 ≡ false) × (takes Ite 3 ≡ true) × (takes Ite 4 ≡ false)
+other_arguments = (refl, refl, refl, refl, refl)
+
 -- a fold of any length is one call
 one_call : depth (Call (Fold Plus) (more (Num (pos 1)) (more (Num (pos 2)) (more (Num (pos 3)) none)))) ≡ 1
 one_call = refl
 
+-- calls that stand inside one another count, and not calls beside one another
+two_calls : depth (Call (Fold Plus) (more (Call (One Not) (more (At (pos 0)) none)) (more (Call (One Not) (more (At (pos 1)) none)) none))) ≡ 2
+two_calls = refl
+
 -- sixty-five open parentheses are too deep, whatever comes after them
 too_deep : IsDeep (codes "(((((((((((((((((((((((((((((((((((((((((((((((((((((((((((((((((" ++ codes "))")
 too_deep = (65, omega arith)
+
+-- a `)` before them makes up for one
+closed_before : parse (codes ")" ++ repeat 65 (codes "(")) ≡ Malformed
+unfolding before_comment words is_deep statement_at keyword_of
+closed_before = refl
 
 -- whole lines
 level_line : parse (codes "level 007 # seven") ≡ Good (Level (pos 7))
@@ -148,6 +183,27 @@ variables = (refl, refl, refl)
 bits_alone : (atom_of ABit (codes "1") ≡ Some (Number (pos 1))) × (atom_of ABit (codes "01") ≡ None)
 unfolding atom_of
 bits_alone = (refl, refl)
+
+-- each word that calls
+heads_of_one : (head_of (codes "not") ≡ Some (One Not)) × (head_of (codes "neg") ≡ Some (One Neg))
+unfolding head_of
+heads_of_one = (refl, refl)
+
+heads_of_truths : (head_of (codes "and") ≡ Some (Fold And)) × (head_of (codes "or") ≡ Some (Fold Or)) × (head_of (codes "xor") ≡ Some (Fold Xor))
+unfolding head_of
+heads_of_truths = (refl, refl, refl)
+
+heads_of_numbers : (head_of (codes "plus") ≡ Some (Fold Plus)) × (head_of (codes "minus") ≡ Some (Fold Minus)) × (head_of (codes "times") ≡ Some (Fold Times))
+unfolding head_of
+heads_of_numbers = (refl, refl, refl)
+
+heads_of_orders : (head_of (codes "min") ≡ Some (Fold Min)) × (head_of (codes "max") ≡ Some (Fold Max)) × (head_of (codes "eq") ≡ Some (Fold Eq)) × (head_of (codes "lt") ≡ Some (Fold Lt))
+unfolding head_of
+heads_of_orders = (refl, refl, refl, refl)
+
+other_heads : (head_of (codes "const") ≡ Some Const) × (head_of (codes "ite") ≡ Some Ite)
+unfolding head_of
+other_heads = (refl, refl)
 
 -- a word that calls nothing
 no_head : parse (codes "let f = restrict(x,y,1)") ≡ Malformed

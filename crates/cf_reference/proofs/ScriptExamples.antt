@@ -1,23 +1,24 @@
 -- The reference run on worked scripts.
-use Rattle.std.proofs.Common.{◌≡◌, List, [], ◌∷◌, ◌++◌, Some, refl}
+use Rattle.std.proofs.Common.{◌≡◌, List, length, true, [], ◌∷◌, ◌++◌, Some, None, refl}
 use Rattle.std.specs.Prelude.{ℕ, codes, pos}
 use Rattle.std.specs.Fmt.{digits}
 use Rattle.cf_model.specs.Assignments.{all_bits}
 use Rattle.cf_model.specs.Patterns.{cut_into, sub}
 use Rattle.cf_model.specs.declared.terms.Word2.TheVariants.{And}
 use Rattle.cf_reference.specs.Words.{before_comment, words, natural, number, place, is_name, is_bits}
-use Rattle.cf_reference.specs.declared.grammar.Head.TheVariants.{Fold}
+use Rattle.cf_reference.specs.declared.grammar.Head.TheVariants.{Const, Fold}
 use Rattle.cf_reference.specs.Heads.{head_of}
 use Rattle.cf_reference.specs.Trees.{Level, Let, At, Named, Call, none, more}
 use Rattle.cf_reference.specs.Grammar.{keyword_of, leaf, atom_of}
 use Rattle.cf_reference.specs.LineRefusals.{Malformed, Good}
 use Rattle.cf_reference.specs.Parsing.{parse, is_deep, statement_at, readers}
+use Rattle.cf_reference.specs.Calls.{Number, call_refusal}
 use Rattle.cf_reference.specs.Expressions.{part, walk}
 use Rattle.cf_reference.specs.Failures.{subexpressions, failure}
 use Rattle.cf_reference.specs.States.{initial}
 use Rattle.cf_reference.specs.Carrying.{set_level, declare, define, tell_value, tell_first, tell_list, tell_equal, tell_size, tell_stats}
-use Rattle.cf_reference.specs.Scripts.{text_of, carry_fitting, Done, Refused, Usage, carry, run_lines, ref}
-use Rattle.cf_reference.specs.Lines.{lines, LineTooLong, ScriptTooLong}
+use Rattle.cf_reference.specs.Scripts.{text_of, Done, Refused, Usage, carry, run_lines, ref}
+use Rattle.cf_reference.specs.Lines.{lines}
 
 -- the lines of a script, each ended by a newline
 abbrev script : List (List ℕ) → List ℕ
@@ -61,10 +62,19 @@ sizes_of : text (codes "level 1" ∷ codes "var a b" ∷ codes "let f = and(a,b)
 unfolding text cut_into sub
 sizes_of = refl
 
+-- no name, and so no grouping
+stats_of_nothing : text (codes "level 1" ∷ codes "stats" ∷ []) ≡ codes "stats 0 0 0 0 0 0 0 0 0" ++ 10 ∷ []
+unfolding text
+stats_of_nothing = refl
+
 -- a level that is set is refused before its range
 level_again : text (codes "level 1" ∷ codes "level 9" ∷ []) ≡ codes "refused 2 5" ++ 10 ∷ []
 unfolding text
 level_again = refl
+
+highest_level : text (codes "level 7" ∷ codes "stats" ∷ []) ≡ codes "stats 0 0 0 0 0 0 0 0 0" ++ 10 ∷ []
+unfolding text
+highest_level = refl
 
 bad_level : text (codes "level 8" ∷ []) ≡ codes "refused 1 10" ++ 10 ∷ []
 unfolding text
@@ -130,6 +140,21 @@ own_level : text (codes "level 1" ∷ codes "let z = const(0,-170141183460469231
 unfolding text
 own_level = refl
 
+-- A fold's step comes before the arguments behind it: the first two fail at 10, the third at 01.
+step_before_argument : text (codes "level 1" ∷ codes "let f = plus(170141183460469231731687303715884105727,@0,plus(170141183460469231731687303715884105727,@1))" ∷ []) ≡ codes "refused 2 14 10" ++ 10 ∷ []
+unfolding text
+step_before_argument = refl
+
+-- what fails in an argument comes before what fails in a later one, and not the least of all
+argument_before_argument : text (codes "level 1" ∷ codes "let f = plus(plus(170141183460469231731687303715884105727,@0),plus(170141183460469231731687303715884105727,@1))" ∷ []) ≡ codes "refused 2 14 10" ++ 10 ∷ []
+unfolding text
+argument_before_argument = refl
+
+-- the first argument less the second
+minus_in_order : text (codes "level 1" ∷ codes "let f = minus(@0,@1)" ∷ codes "value f 10" ∷ codes "value f 01" ∷ []) ≡ script (codes "1" ∷ codes "-1" ∷ [])
+unfolding text
+minus_in_order = refl
+
 -- a fold's steps come one by one
 step_by_step : text (codes "level 0" ∷ codes "let f = plus(170141183460469231731687303715884105727,@0,-1)" ∷ []) ≡ codes "refused 2 14 1" ++ 10 ∷ []
 unfolding text
@@ -143,6 +168,11 @@ twice_later = refl
 no_lines : text (codes "level 0" ∷ codes "let f = @0" ∷ codes "list f 1 0" ∷ []) ≡ codes "refused 3 11" ++ 10 ∷ []
 unfolding text
 no_lines = refl
+
+-- a name that stands for nothing is refused before the number of lines
+no_name_to_list : text (codes "level 0" ∷ codes "list g 1 0" ∷ []) ≡ codes "refused 2 6" ++ 10 ∷ []
+unfolding text
+no_name_to_list = refl
 
 too_many_lines : text (codes "level 0" ∷ codes "let f = @0" ∷ codes "list f 1 1001" ∷ [])
     ≡ codes "refused 3 11" ++ 10 ∷ []
@@ -168,6 +198,9 @@ const_level : text (codes "level 1" ∷ codes "let f = const(8,1)" ∷ []) ≡ c
 unfolding text
 const_level = refl
 
+const_of_7 : call_refusal Const (Number (pos 7) ∷ Number (pos 1) ∷ []) ≡ None
+const_of_7 = refl
+
 choice : text (codes "level 1" ∷ codes "let f = ite(@0, 5, @1)" ∷ codes "list f 5 4" ∷ codes "equal f @0" ∷ [])
     ≡ script (codes "10" ∷ codes "11" ∷ codes "listed 2" ∷ codes "refused 4 1" ∷ [])
 unfolding text
@@ -185,12 +218,12 @@ unfolding text cut_into sub
 sixth_of_eight = refl
 
 -- a line that is too long, and a script that is
-long_line : text_of 1 (carry_fitting [] initial [] LineTooLong) ≡ codes "refused 1 2" ++ 10 ∷ []
-unfolding digits
-long_line = refl
+long_line : (bytes : List ℕ) → length bytes ≡ 65537 → text_of 1 (carry [] initial 0 (record { bytes = bytes; newline = true })) ≡ codes "refused 1 2" ++ 10 ∷ []
+unfolding digits carry
+long_line bytes h = rw h refl
 
-long_script : text_of 1 (carry_fitting [] initial [] ScriptTooLong) ≡ codes "refused 1 3" ++ 10 ∷ []
-unfolding digits
+long_script : text_of 2 (carry [] initial 1073741823 (record { bytes = codes "a"; newline = true })) ≡ codes "refused 2 3" ++ 10 ∷ []
+unfolding digits carry
 long_script = refl
 
 other_words : (ref [] (codes "run" ∷ codes "extra" ∷ []) []).close ≡ Usage
