@@ -15,3 +15,4 @@ pub mod Works
 pub mod Added
 pub mod Making
 pub mod Remembering
+pub mod JobExamples
