@@ -8,8 +8,9 @@ ghost use Rattle.cf_table.specs.Groupings.{Owns, node_of, pattern_of, exits_of};
 ghost use Rattle.cf_table.specs.Goodness.{IsGoodOver};
 ghost use Rattle.cf_build.specs.Assembling.{HasCanon};
 ghost use Rattle.cf_table.specs.Triples.{zip3};
-ghost use Rattle.cf_pair.specs.Products.{at_place, zero_put, returned3, row_triples, triple_word, IsTriplesOf, AddsPartsOf, ListEach, AddsOnlyIn, GainsRow, IsReturned, IsAdded};
+ghost use Rattle.cf_pair.specs.Products.{at_place, zero_put, returned3, row_triples, triple_word, pairs_at, IsPlace, IsTriplesOf, AddsPartsOf, ListEach, AddsOnlyIn, GainsRow, IsReturned, IsAdded};
 
+use crate::middles::Middles;
 use crate::pairing::pair_groupings;
 use cf_build::{Rows, assemble_rows};
 use cf_table::steps::Steps;
@@ -66,16 +67,20 @@ fn with_zero(place: Place, pair: (u64, u64)) -> (u64, u64, u64)
     }
 }
 
+/// Each pair of a product with exit 0 at a place.
 fn pairs_with_zero(
     alloc: Global,
+    table: &Table,
     place: Place,
-    pairs: &[(u64, u64)],
+    pairs: Middles,
 ) -> Result<Vec<(u64, u64, u64)>, NoMemory>
-    ensures { IfOk result (λ v. v.items ≡ map (zero_put place) pairs.now) }
+    requires { IsPlace table.now.products pairs }
+    ensures { IfOk result (λ v. v.items ≡ map (zero_put place) (pairs_at table.now.products pairs)) }
 {
-    let mut triples = Vec::with_capacity(alloc, pairs.len())?;
-    for &pair in pairs {
-        triples.push(with_zero(place, pair))?;
+    let count = pairs.len(table);
+    let mut triples = Vec::with_capacity(alloc, count)?;
+    for i in 0..count {
+        triples.push(with_zero(place, pairs.pair(table, i)))?;
     }
     Ok(triples)
 }
@@ -102,7 +107,7 @@ fn pair_with_zero<L: Ledger>(
     ensures longer { Lengthens table.old.tuples table.new.tuples }
 {
     let (product, pairs) = pair_groupings(alloc, table, g, h, steps)?;
-    let triples = pairs_with_zero(alloc, place, pairs.as_slice())?;
+    let triples = pairs_with_zero(alloc, table, place, pairs)?;
     Ok((product, triples))
 }
 

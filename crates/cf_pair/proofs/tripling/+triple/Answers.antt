@@ -15,7 +15,6 @@ use Rattle.cf_pair.proofs.Triples.{TripleCall, call_range, assembly3}
 use Rattle.cf_model.specs.Diagrams.{Levels}
 use Rattle.std.proofs.lemmas.Result.{on_ok_weaker}
 use Rattle.cf_pair.proofs.Pushing.{gains_so, on_ok_always}
-use Rattle.cf_table.specs.declared.Gid.{Gid}
 use Rattle.cf_table.specs.Groupings.{Groupings}
 use Rattle.cf_table.specs.Triples.{IsTriple}
 use Rattle.cf_pair.specs.Products.{row_triples, GainsRow, IsAdded}
