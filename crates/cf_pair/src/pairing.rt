@@ -6,6 +6,7 @@ ghost use Rattle.cf_model.specs.Diagrams.{pattern, IsGood, Extends};
 ghost use Rattle.cf_tuple.specs.Books.{Lengthens};
 ghost use Rattle.cf_table.specs.Groupings.{Owns, node_of, patterns_of};
 ghost use Rattle.cf_table.specs.Goodness.{IsGoodOver};
+ghost use Rattle.cf_build.specs.Assembling.{ended};
 ghost use Rattle.cf_pair.specs.Charges.{pair_work, IsChargedFor, IsUnknown};
 ghost use Rattle.cf_pair.specs.Products.{met, plain_pairs, returned2, row_pairs, pair_word, pairs_at, IsPlace, IsPairsOf, IsPairedAt, AddsPartsOf, ListEach, AddsOnlyIn, GainsRow, IsReturned, IsAdded};
 
@@ -175,7 +176,8 @@ fn pair_parts<L: Ledger>(
     let a = table.a_of(g, steps);
     let b = table.a_of(h, steps);
     let (callee, middles) = pair_groupings(alloc, table, a, b, steps)?;
-    let rows = pair_rows(alloc, table, g, h, middles, steps)?;
+    let mut rows = Rows::new(alloc, middles.len(table))?;
+    pair_rows(alloc, table, g, h, middles, &mut rows, steps)?;
     assemble_rows(alloc, table, callee, &rows)
 }
 
@@ -214,7 +216,7 @@ fn pair_row<L: Ledger>(
     Ok(())
 }
 
-/// A row for each pair of middle vertices.
+/// Appends a row for each pair of middle vertices.
 #[cycle(pair)]
 fn pair_rows<L: Ledger>(
     alloc: Global,
@@ -222,8 +224,9 @@ fn pair_rows<L: Ledger>(
     g: Gid,
     h: Gid,
     middles: Middles,
+    rows: &mut Rows<(u64, u64)>,
     steps: &mut Steps<L>,
-) -> Result<Rows<(u64, u64)>, NoMemory>
+) -> Result<(), NoMemory>
     requires above { 1 ≤ g.level }
     requires level { g.level ≤ 7 }
     requires levels { h.level ≡ g.level }
@@ -234,28 +237,27 @@ fn pair_rows<L: Ledger>(
     requires middles { All (λ m.
         (m.0 < length (node_of table.old g).connections)
         × (m.1 < length (node_of table.old h).connections)) (pairs_at table.old.products middles) }
-    ensures rows { IfOk result (λ v. ListEach table.new.levels (g.level - 1)
+    requires none { rows.old ≡ ended [] }
+    ensures rows { OnOk result (ListEach table.new.levels (g.level - 1)
         (λ i. pair_word (pattern table.old.levels (g.level - 1))
         (node_of table.old g).connections
         (node_of table.old h).connections
         (slice_index_or (pairs_at table.old.products middles) i (0, 0)))
-        (length (pairs_at table.old.products middles)) v.rows) }
-    ensures ended { IfOk result (λ v. v.begun ≡ []) }
-    ensures added { IfOk result (λ v.
-        AddsOnlyIn table.old.levels table.new.levels (g.level - 1) v.rows) }
+        (length (pairs_at table.old.products middles)) rows.new.rows) }
+    ensures ended { OnOk result (rows.new.begun ≡ []) }
+    ensures added { OnOk result
+        (AddsOnlyIn table.old.levels table.new.levels (g.level - 1) rows.new.rows) }
     ensures good { IsGood table.new.levels }
     ensures extends { Extends table.old.levels table.new.levels }
     ensures longer { Lengthens table.old.tuples table.new.tuples }
     ensures charged { let own = 2 * length (pairs_at table.old.products middles) in
         IsChargedFor table.old table.new g h g.level own steps.old steps.new (is_ok result) }
 {
-    let count = middles.len(table);
-    let mut rows = Rows::new(alloc, count)?;
-    for i in 0..count {
+    for i in 0..middles.len(table) {
         let middle = middles.pair(table, i);
         let b = table.b_of(g, middle.0, steps);
         let c = table.b_of(h, middle.1, steps);
-        pair_row(alloc, table, b, c, &mut rows, steps)?;
+        pair_row(alloc, table, b, c, rows, steps)?;
     }
-    Ok(rows)
+    Ok(())
 }

@@ -33,7 +33,7 @@ pair_rows-b_of-b-requires-clause-middle g t c =
     let x = c.loop-i.invariant.listed.extends in
     let m = c.pair-middle.result in
     let read : m ≡ get_or (pairs_at old.products c.args.middles) c.loop-i.i (0, 0) = middle_read _ _ c.args.middles _ _ _ _ _ _ c.requires.place c.loop-i.invariant.charged c.loop-i.i m c.pair-middle.ensures in
-    let in_ : Both (length (node old.levels c.args.g.level c.args.g.at).connections) (length (node old.levels c.args.h.level c.args.h.at).connections) m = subst (Both (length (node old.levels c.args.g.level c.args.g.at).connections) (length (node old.levels c.args.h.level c.args.h.at).connections)) (sym read) (c.requires.middles c.loop-i.i (0, 0) (omega (arith, c.loop-i-test.true, c.len-count.ensures))) in
+    let in_ : Both (length (node old.levels c.args.g.level c.args.g.at).connections) (length (node old.levels c.args.h.level c.args.h.at).connections) m = subst (Both (length (node old.levels c.args.g.level c.args.g.at).connections) (length (node old.levels c.args.h.level c.args.h.at).connections)) (sym read) (c.requires.middles c.loop-i.i (0, 0) (omega (arith, c.loop-i-test.true, c.len-i-end.ensures))) in
     omega (arith, in_.0, ap (λ (d : Node). length d.connections) (x.kept c.args.g.level c.args.g.at c.requires.first))
 
 pub pair_rows-b_of-c-requires-clause-middle : goal.pair_rows-b_of-c-requires-clause-middle
@@ -42,7 +42,7 @@ pair_rows-b_of-c-requires-clause-middle g t c =
     let x = c.loop-i.invariant.listed.extends in
     let m = c.pair-middle.result in
     let read : m ≡ get_or (pairs_at old.products c.args.middles) c.loop-i.i (0, 0) = middle_read _ _ c.args.middles _ _ _ _ _ _ c.requires.place c.loop-i.invariant.charged c.loop-i.i m c.pair-middle.ensures in
-    let in_ : Both (length (node old.levels c.args.g.level c.args.g.at).connections) (length (node old.levels c.args.h.level c.args.h.at).connections) m = subst (Both (length (node old.levels c.args.g.level c.args.g.at).connections) (length (node old.levels c.args.h.level c.args.h.at).connections)) (sym read) (c.requires.middles c.loop-i.i (0, 0) (omega (arith, c.loop-i-test.true, c.len-count.ensures))) in
+    let in_ : Both (length (node old.levels c.args.g.level c.args.g.at).connections) (length (node old.levels c.args.h.level c.args.h.at).connections) m = subst (Both (length (node old.levels c.args.g.level c.args.g.at).connections) (length (node old.levels c.args.h.level c.args.h.at).connections)) (sym read) (c.requires.middles c.loop-i.i (0, 0) (omega (arith, c.loop-i-test.true, c.len-i-end.ensures))) in
     omega (arith, in_.1, ap (λ (d : Node). length d.connections) (x.kept c.args.h.level c.args.h.at c.requires.second))
 
 pub pair_rows-pair_row-requires : goal.pair_rows-pair_row-requires
@@ -54,7 +54,7 @@ pair_rows-pair_row-requires g t c κs within =
     let l = k - 1 in
     let m = c.pair-middle.result in
     let read : m ≡ get_or (pairs_at old.products c.args.middles) c.loop-i.i (0, 0) = middle_read _ _ c.args.middles _ _ _ _ _ _ c.requires.place c.loop-i.invariant.charged c.loop-i.i m c.pair-middle.ensures in
-    let in_ : Both (length (node old.levels c.args.g.level c.args.g.at).connections) (length (node old.levels c.args.h.level c.args.h.at).connections) m = subst (Both (length (node old.levels c.args.g.level c.args.g.at).connections) (length (node old.levels c.args.h.level c.args.h.at).connections)) (sym read) (c.requires.middles c.loop-i.i (0, 0) (omega (arith, c.loop-i-test.true, c.len-count.ensures))) in
+    let in_ : Both (length (node old.levels c.args.g.level c.args.g.at).connections) (length (node old.levels c.args.h.level c.args.h.at).connections) m = subst (Both (length (node old.levels c.args.g.level c.args.g.at).connections) (length (node old.levels c.args.h.level c.args.h.at).connections)) (sym read) (c.requires.middles c.loop-i.i (0, 0) (omega (arith, c.loop-i-test.true, c.len-i-end.ensures))) in
     let b = c.b_of-b.result in
     let d = c.b_of-c.result in
     let gb : IsGoodOver now l b = read_good old now c.loop-i.invariant.listed.good x k l c.args.g.at m.0 (omega (arith, c.requires.above)) c.requires.first in_.0 b c.b_of-b.ensures.level c.b_of-b.ensures.connection c.b_of-b.ensures.tuple in
@@ -76,7 +76,7 @@ pair_rows-loop-i-preserved g t c =
     let l = k - 1 in
     let m = c.pair-middle.result in
     let read : m ≡ get_or (pairs_at old.products c.args.middles) c.loop-i.i (0, 0) = middle_read _ _ c.args.middles _ _ _ _ _ _ c.requires.place c.loop-i.invariant.charged c.loop-i.i m c.pair-middle.ensures in
-    let in_ : Both (length (node old.levels c.args.g.level c.args.g.at).connections) (length (node old.levels c.args.h.level c.args.h.at).connections) m = subst (Both (length (node old.levels c.args.g.level c.args.g.at).connections) (length (node old.levels c.args.h.level c.args.h.at).connections)) (sym read) (c.requires.middles c.loop-i.i (0, 0) (omega (arith, c.loop-i-test.true, c.len-count.ensures))) in
+    let in_ : Both (length (node old.levels c.args.g.level c.args.g.at).connections) (length (node old.levels c.args.h.level c.args.h.at).connections) m = subst (Both (length (node old.levels c.args.g.level c.args.g.at).connections) (length (node old.levels c.args.h.level c.args.h.at).connections)) (sym read) (c.requires.middles c.loop-i.i (0, 0) (omega (arith, c.loop-i-test.true, c.len-i-end.ensures))) in
     let b = c.b_of-b.result in
     let d = c.b_of-c.result in
     let below : l + 1 ≡ k = omega (arith, c.requires.above) in
@@ -136,16 +136,16 @@ pair_parts-assemble_rows-requires-clause-middles g t c =
     let new = c.pair_groupings.new.table.levels in
     let e = c.in_ok-callee.callee in
     let p = c.in_ok-callee.ensures.paired.pairs in
-    c.in_ok-rows.ensures.rows.long ∙ sym p.canon.reached
-    ∙ (level_holds new c.in_ok-callee.ensures.good e.level).reaches e.at p.there ∙ sym (exits_kept new c.pair_rows.new.table.levels c.in_ok-rows.ensures.extends e.level e.at p.there)
+    c.in_ok-pair_rows.ensures.rows.long ∙ sym p.canon.reached
+    ∙ (level_holds new c.in_ok-callee.ensures.good e.level).reaches e.at p.there ∙ sym (exits_kept new c.pair_rows.new.table.levels c.in_ok-pair_rows.ensures.extends e.level e.at p.there)
 
 pub pair_parts-assemble_rows-requires-clause-rows : goal.pair_parts-assemble_rows-requires-clause-rows
 pair_parts-assemble_rows-requires-clause-rows g t c k d lk =
     let v = c.pair_rows.new.table.levels in
-    let w = c.in_ok-rows.ensures.rows in
+    let w = c.in_ok-pair_rows.ensures.rows in
     let r = (w.each k d (omega (arith, lk, w.long))).is_row in
     let lev : c.args.g.level - 1 ≡ c.in_ok-callee.callee.level = omega (arith, c.in_ok-callee.ensures.paired.pairs.level, c.a_of-a.ensures.level) in
-    subst (λ (l : ℕ). IsRow v l (get_or c.in_ok-rows.rows.rows k d)) lev r
+    subst (λ (l : ℕ). IsRow v l (get_or c.pair_rows.new.rows.rows k d)) lev r
 
 pub pair_parts-returns-clause-paired : goal.pair_parts-returns-clause-paired
 pair_parts-returns-clause-paired g t c =
@@ -153,7 +153,7 @@ pair_parts-returns-clause-paired g t c =
     let new = c.pair_groupings.new.table.levels in
     let v = c.pair_rows.new.table.levels in
     let ms = pairs_at c.pair_groupings.new.table.products c.in_ok-callee.middles in
-    let rows = c.in_ok-rows.rows.rows in
+    let rows = c.pair_rows.new.rows.rows in
     let l = c.args.g.level - 1 in
     let w : PairCall old new v c.args.g c.args.h c.a_of-a.result c.a_of-b.result c.in_ok-callee.callee ms rows = record {
       good = c.requires.good;
@@ -168,11 +168,11 @@ pair_parts-returns-clause-paired g t c =
       good1 = c.in_ok-callee.ensures.good;
       extends1 = c.in_ok-callee.ensures.extends;
       canon = c.in_ok-callee.ensures.paired.pairs;
-      good2 = c.in_ok-rows.ensures.good;
-      extends2 = c.in_ok-rows.ensures.extends;
-      listed = c.in_ok-rows.ensures.rows;
+      good2 = c.in_ok-pair_rows.ensures.good;
+      extends2 = c.in_ok-pair_rows.ensures.extends;
+      listed = c.in_ok-pair_rows.ensures.rows;
     } in
-    let added : AddsOnlyIn new v l rows = c.in_ok-rows.ensures.added in
+    let added : AddsOnlyIn new v l rows = c.in_ok-pair_rows.ensures.added in
     if_ok2 c.assemble_rows.result _ _ _ c.assemble_rows.ensures.assembled c.assemble_rows.ensures.added
     (λ r s x. (assembly old new v c.assemble_rows.new.table.levels c.args.g c.args.h c.a_of-a.result c.a_of-b.result c.in_ok-callee.callee ms rows r.0 r.1.items w c.assemble_rows.ensures.good c.assemble_rows.ensures.kept s c.in_ok-callee.ensures.added added x).0)
 
@@ -182,7 +182,7 @@ pair_parts-returns-clause-added g t c =
     let new = c.pair_groupings.new.table.levels in
     let v = c.pair_rows.new.table.levels in
     let ms = pairs_at c.pair_groupings.new.table.products c.in_ok-callee.middles in
-    let rows = c.in_ok-rows.rows.rows in
+    let rows = c.pair_rows.new.rows.rows in
     let l = c.args.g.level - 1 in
     let w : PairCall old new v c.args.g c.args.h c.a_of-a.result c.a_of-b.result c.in_ok-callee.callee ms rows = record {
       good = c.requires.good;
@@ -197,11 +197,11 @@ pair_parts-returns-clause-added g t c =
       good1 = c.in_ok-callee.ensures.good;
       extends1 = c.in_ok-callee.ensures.extends;
       canon = c.in_ok-callee.ensures.paired.pairs;
-      good2 = c.in_ok-rows.ensures.good;
-      extends2 = c.in_ok-rows.ensures.extends;
-      listed = c.in_ok-rows.ensures.rows;
+      good2 = c.in_ok-pair_rows.ensures.good;
+      extends2 = c.in_ok-pair_rows.ensures.extends;
+      listed = c.in_ok-pair_rows.ensures.rows;
     } in
-    let added : AddsOnlyIn new v l rows = c.in_ok-rows.ensures.added in
+    let added : AddsOnlyIn new v l rows = c.in_ok-pair_rows.ensures.added in
     if_ok2 c.assemble_rows.result _ _ _ c.assemble_rows.ensures.assembled c.assemble_rows.ensures.added
     (λ r s x. (assembly old new v c.assemble_rows.new.table.levels c.args.g c.args.h c.a_of-a.result c.a_of-b.result c.in_ok-callee.callee ms rows r.0 r.1.items w c.assemble_rows.ensures.good c.assemble_rows.ensures.kept s c.in_ok-callee.ensures.added added x).1)
 
@@ -221,6 +221,19 @@ pair_parts-returns-in_err-callee-clause-charged g t c =
 pub pair_parts-returns-in_err-rows-clause-charged : goal.pair_parts-returns-in_err-rows-clause-charged
 pair_parts-returns-in_err-rows-clause-charged g t c =
     let old = c.args.table.now in
+    let a = c.a_of-a in
+    let b = c.a_of-b in
+    let k = patterns_of old.levels c.args.g c.args.h in
+    let n = c.pair_groupings.new.table.products in
+    let s = c.pair_groupings.new.steps in
+    charged_weaker old.products n k.0 k.1 c.args.g.level 2 (2 * pair_work k) c.args.steps.now s true (is_ok c.from_residual-in_err-rows.result)
+    (callee_charged old n c.args.g c.args.h a.result b.result c.args.steps.now b.new.steps s true c.requires.good c.requires.first c.requires.second a.ensures.level a.ensures.callee b.ensures.level b.ensures.callee (omega (arith, a.ensures.ticks, b.ensures.ticks)) c.in_ok-callee.ensures.charged)
+    (two_paid old.levels c.requires.good c.args.g c.args.h c.requires.above c.requires.levels c.requires.first c.requires.second)
+    (λ e. refl)
+
+pub pair_parts-returns-in_err-pair_rows-clause-charged : goal.pair_parts-returns-in_err-pair_rows-clause-charged
+pair_parts-returns-in_err-pair_rows-clause-charged g t c =
+    let old = c.args.table.now in
     let new = c.pair_groupings.new.table in
     let a = c.a_of-a in
     let b = c.a_of-b in
@@ -229,10 +242,10 @@ pair_parts-returns-in_err-rows-clause-charged g t c =
     let ms = pairs_at c.pair_groupings.new.table.products c.in_ok-callee.middles in
     let fit = middles_fit old.levels new.levels c.args.g c.args.h a.result b.result c.in_ok-callee.callee ms c.requires.good q.good q.extends c.requires.above c.requires.levels c.requires.first c.requires.second a.ensures.level a.ensures.callee b.ensures.level b.ensures.callee q.paired.pairs in
     let first = callee_charged old new.products c.args.g c.args.h a.result b.result c.args.steps.now b.new.steps c.pair_groupings.new.steps true c.requires.good c.requires.first c.requires.second a.ensures.level a.ensures.callee b.ensures.level b.ensures.callee (omega (arith, a.ensures.ticks, b.ensures.ticks)) q.charged in
-    charged_weaker old.products c.pair_rows.new.table.products k.0 k.1 c.args.g.level (2 * pair_work k) (2 * pair_work k) c.args.steps.now c.pair_rows.new.steps false (is_ok c.from_residual-in_err-rows.result)
-    (rows_charged old new c.pair_rows.new.table.products c.args.g c.args.h ms c.args.steps.now c.pair_groupings.new.steps c.pair_rows.new.steps false c.requires.good q.good q.extends c.requires.above c.requires.levels c.requires.first c.requires.second fit first c.in_err-rows.ensures.charged)
+    charged_weaker old.products c.pair_rows.new.table.products k.0 k.1 c.args.g.level (2 * pair_work k) (2 * pair_work k) c.args.steps.now c.pair_rows.new.steps false (is_ok c.from_residual-in_err-pair_rows.result)
+    (rows_charged old new c.pair_rows.new.table.products c.args.g c.args.h ms c.args.steps.now c.pair_groupings.new.steps c.pair_rows.new.steps false c.requires.good q.good q.extends c.requires.above c.requires.levels c.requires.first c.requires.second fit first c.in_err-pair_rows.ensures.charged)
     (omega arith)
-    (λ e. absurd (failed c.from_residual-in_err-rows.result c.from_residual-in_err-rows.ensures.0 e))
+    (λ e. absurd (failed c.from_residual-in_err-pair_rows.result c.from_residual-in_err-pair_rows.ensures.0 e))
 
 pub pair_parts-returns-clause-charged : goal.pair_parts-returns-clause-charged
 pair_parts-returns-clause-charged g t c =
@@ -247,21 +260,18 @@ pair_parts-returns-clause-charged g t c =
     let first = callee_charged old new.products c.args.g c.args.h a.result b.result c.args.steps.now b.new.steps c.pair_groupings.new.steps true c.requires.good c.requires.first c.requires.second a.ensures.level a.ensures.callee b.ensures.level b.ensures.callee (omega (arith, a.ensures.ticks, b.ensures.ticks)) q.charged in
     charged_weaker old.products c.assemble_rows.new.table.products k.0 k.1 c.args.g.level (2 * pair_work k) (2 * pair_work k) c.args.steps.now c.pair_rows.new.steps true (is_ok c.assemble_rows.result)
     (subst (λ (n : List (Pattern × Pattern)). IsCharged old.products n k.0 k.1 c.args.g.level (2 * pair_work k) c.args.steps.now c.pair_rows.new.steps true) (sym c.assemble_rows.ensures.products)
-    (rows_charged old new c.pair_rows.new.table.products c.args.g c.args.h ms c.args.steps.now c.pair_groupings.new.steps c.pair_rows.new.steps true c.requires.good q.good q.extends c.requires.above c.requires.levels c.requires.first c.requires.second fit first c.in_ok-rows.ensures.charged))
+    (rows_charged old new c.pair_rows.new.table.products c.args.g c.args.h ms c.args.steps.now c.pair_groupings.new.steps c.pair_rows.new.steps true c.requires.good q.good q.extends c.requires.above c.requires.levels c.requires.first c.requires.second fit first c.in_ok-pair_rows.ensures.charged))
     (omega arith)
     (λ e. refl)
 
 pub pair_rows-loop-i-init : goal.pair_rows-loop-i-init
 pair_rows-loop-i-init g t c =
-    let none = c.in_ok-rows.ensures in
+    let none = c.requires.none in
     record {
       listed = listed_none _ _ _ _ c.requires.good (ap (λ (s : Rowed (ℕ × ℕ)). s.rows) none);
       ended = ap (λ (s : Rowed (ℕ × ℕ)). s.begun) none;
       charged = charged_none _ _ _ _ _ _ _ _ _ refl (omega arith);
     }
-
-pub pair_rows-returns-in_err-rows-clause-charged : goal.pair_rows-returns-in_err-rows-clause-charged
-pair_rows-returns-in_err-rows-clause-charged g t c = charged_none _ _ _ _ _ _ _ _ _ refl (omega arith)
 
 pub pair_rows-returns-in_err-pair_row-clause-charged : goal.pair_rows-returns-in_err-pair_row-clause-charged
 pair_rows-returns-in_err-pair_row-clause-charged g t c =
@@ -270,18 +280,18 @@ pair_rows-returns-in_err-pair_row-clause-charged g t c =
     let x = c.loop-i.invariant.listed.extends in
     let m = c.pair-middle.result in
     let read : m ≡ get_or (pairs_at old.products c.args.middles) c.loop-i.i (0, 0) = middle_read _ _ c.args.middles _ _ _ _ _ _ c.requires.place c.loop-i.invariant.charged c.loop-i.i m c.pair-middle.ensures in
-    let in_ : Both (length (node old.levels c.args.g.level c.args.g.at).connections) (length (node old.levels c.args.h.level c.args.h.at).connections) m = subst (Both (length (node old.levels c.args.g.level c.args.g.at).connections) (length (node old.levels c.args.h.level c.args.h.at).connections)) (sym read) (c.requires.middles c.loop-i.i (0, 0) (omega (arith, c.loop-i-test.true, c.len-count.ensures))) in
+    let in_ : Both (length (node old.levels c.args.g.level c.args.g.at).connections) (length (node old.levels c.args.h.level c.args.h.at).connections) m = subst (Both (length (node old.levels c.args.g.level c.args.g.at).connections) (length (node old.levels c.args.h.level c.args.h.at).connections)) (sym read) (c.requires.middles c.loop-i.i (0, 0) (omega (arith, c.loop-i-test.true, c.len-i-end.ensures))) in
     let b = c.b_of-b in
     let d = c.b_of-c in
     let k = patterns_of old.levels c.args.g c.args.h in
     let q = patterns_of now.levels b.result.«to» d.result.«to» in
     let own = 2 * length (pairs_at old.products c.args.middles) in
-    charged_weaker old.products c.pair_row.new.table.products k.0 k.1 c.args.g.level own own c.args.steps.now c.pair_row.new.steps false (is_ok c.from_residual-in_err-pair_row.result)
+    charged_weaker old.products c.pair_row.new.table.products k.0 k.1 c.args.g.level own own c.args.steps.now c.pair_row.new.steps false (is_ok c.from_residual.result)
     (charged_then old.products now.products c.pair_row.new.table.products k.0 k.1 q.0 q.1 c.args.g.level (suc b.result.«to».level) own (2 * c.loop-i.i) 0 c.args.steps.now c.loop-i.steps d.new.steps c.pair_row.new.steps false c.loop-i.invariant.charged c.in_err-pair_row.ensures.charged
     (row_parts old now c.requires.good x c.args.g c.args.h b.result d.result m c.requires.first c.requires.second in_ b.ensures.level d.ensures.level b.ensures.connection d.ensures.connection)
-    (omega (arith, b.ensures.ticks, d.ensures.ticks, c.loop-i-test.true, c.len-count.ensures)))
+    (omega (arith, b.ensures.ticks, d.ensures.ticks, c.loop-i-test.true, c.len-i-end.ensures)))
     (omega arith)
-    (λ e. absurd (failed c.from_residual-in_err-pair_row.result c.from_residual-in_err-pair_row.ensures.0 e))
+    (λ e. absurd (failed c.from_residual.result c.from_residual.ensures.0 e))
 
 pub pair_groupings-returns-in-Some-clause-charged : goal.pair_groupings-returns-in-Some-clause-charged
 pair_groupings-returns-in-Some-clause-charged g t c = charged_none _ _ _ _ _ _ _ _ _ refl (omega arith)
