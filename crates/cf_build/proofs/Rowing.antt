@@ -1,5 +1,5 @@
 use Rattle.std.proofs.Common.{◌≡◌, ℕ, ◌<◌, ◌≤◌, ◌+◌, ◌-◌, List, [], ◌∷◌, ◌++◌, map, refl, sym, ◌∙◌, ap, subst, length, take, drop, get_or, arith, length-drop}
-use Rattle.std.proofs.lemmas.List.{drop-append-le, take_all, take_rest, map_push, take_more, length_push}
+use Rattle.std.proofs.lemmas.List.{drop-append-le, take_rest, map_push, take_more, length_push}
 use Rattle.std.specs.List.{flat_map}
 use Rattle.std.specs.declared.vec.Vec.{Vec}
 use Rattle.cf_table.specs.declared.Gid.{Gid}

@@ -1,6 +1,6 @@
 //! Merging of exits, and joining of rows into a grouping: the two call each other one level down.
 
-ghost use Rattle.std.specs.Prelude.{◌≡◌, ◌<◌, ◌≤◌, ◌+◌, ◌++◌, ◌↔◌, ℕ, suc, length, map, All, IfOk, OnOk, IsTrue, slice_index_or};
+ghost use Rattle.std.specs.Prelude.{◌≡◌, ◌<◌, ◌≤◌, ◌+◌, ◌++◌, ◌↔◌, [], ℕ, suc, length, map, All, IfOk, OnOk, IsTrue, slice_index_or};
 ghost use Rattle.cf_model.specs.Renumbering.{Grows};
 ghost use Rattle.cf_model.specs.Diagrams.{connection_at, count, exits, pattern, row, spell, IsGood, Extends};
 ghost use Rattle.cf_tuple.specs.Books.{Lengthens};
@@ -11,7 +11,7 @@ ghost use Rattle.cf_build.specs.Parts.{AddsParts, AddsPartsOf};
 
 use super::label::{are_few_and_differ, canon_of};
 use super::rows::{Row, labels_of};
-use cf_table::{BConn, DONT_CARE, Gid, Table};
+use cf_table::{BConn, Classed, DONT_CARE, Gid, Table};
 use cf_tuple::NoMemory;
 use smallvec::SmallVec;
 use std::alloc::Global;
@@ -31,36 +31,37 @@ fn append_classes(
     Ok(())
 }
 
-/// The B-connections of a grouping, with each exit replaced by its class.
-fn classed_rows(
-    alloc: Global,
+/// Fills lists with the B-connections of a grouping, each exit replaced by its class.
+fn fill_classed_rows(
     table: &Table,
     g: Gid,
     classes: &[u64],
-) -> Result<(SmallVec<Row, 4>, SmallVec<u64, 8>), NoMemory>
+    rows: &mut SmallVec<Row, 4>,
+    labels: &mut SmallVec<u64, 8>,
+) -> Result<(), NoMemory>
     requires level { 0 < g.level }
     requires owned { Owns table.now g }
     requires good { IsGood table.now.levels }
     requires entries { length classes.now ≡ exits_of table.now g }
-    ensures rows { IfOk result (λ v. map (row_connection v.1.items) v.0.items
+    requires no_rows { rows.old.items ≡ [] }
+    requires no_labels { labels.old.items ≡ [] }
+    ensures rows { OnOk result (map (row_connection labels.new.items) rows.new.items
         ≡ map (classed_connection classes.now) (node_of table.now g).connections) }
-    ensures levels { IfOk result (λ v. All (λ r. r.callee.level + 1 ≡ g.level) v.0.items) }
-    ensures in_turn { IfOk result (λ v. AreInTurn 0 v.0.items (length v.1.items)) }
+    ensures levels { OnOk result (All (λ r. r.callee.level + 1 ≡ g.level) rows.new.items) }
+    ensures in_turn { OnOk result (AreInTurn 0 rows.new.items (length labels.new.items)) }
 {
     let count = table.middle_count(g);
-    let mut rows = SmallVec::new(alloc);
-    let mut labels = SmallVec::new(alloc);
     for j in 0..count {
         let conn = table.connection(g, j);
         let start = labels.len();
-        append_classes(&mut labels, table.tuple(conn.ret), classes)?;
+        append_classes(labels, table.tuple(conn.ret), classes)?;
         rows.push(Row {
             callee: conn.to,
             start,
             end: labels.len(),
         })?;
     }
-    Ok((rows, labels))
+    Ok(())
 }
 
 /// Whether each exit is its own class.
@@ -103,13 +104,16 @@ pub(crate) fn merge(
         // The two exits of FORK.
         return Ok(DONT_CARE);
     }
-    if let Some(known) = table.reduction_of(alloc, g, classes)? {
+    let key = Classed::new(alloc, g, classes)?;
+    if let Some(known) = table.reduction_of(&key) {
         return Ok(known);
     }
     let a = table.a_callee(g);
-    let (rows, labels) = classed_rows(alloc, table, g, classes)?;
+    let mut rows = SmallVec::new(alloc);
+    let mut labels = SmallVec::new(alloc);
+    fill_classed_rows(table, g, classes, &mut rows, &mut labels)?;
     let merged = join(alloc, table, a, rows.as_slice(), labels.as_slice())?;
-    table.keep_reduction(alloc, g, classes, merged)?;
+    table.keep_reduction(key, merged)?;
     Ok(merged)
 }
 
@@ -137,7 +141,7 @@ fn thin(alloc: Global, table: &mut Table, g: Gid, labels: &[u64]) -> Result<BCon
     Ok(BConn { to, ret })
 }
 
-/// The same for each row.
+/// Fills a list with the same for each row.
 #[cycle(merge)]
 fn thin_rows(
     alloc: Global,
@@ -145,7 +149,8 @@ fn thin_rows(
     level: u8,
     rows: &[Row],
     labels: &[u64],
-) -> Result<SmallVec<BConn, 4>, NoMemory>
+    conns: &mut SmallVec<BConn, 4>,
+) -> Result<(), NoMemory>
     requires level { level ≤ 6 }
     requires levels { All (λ r. r.callee.level ≡ level) rows.now }
     requires in_turn { AreInTurn 0 rows.now (length labels.now) }
@@ -153,21 +158,21 @@ fn thin_rows(
     requires connections { (j : ℕ) → j < length (map (row_connection labels.now) rows.now) →
         IsLooseConnection (count table.old.levels level) (exits table.old.levels level)
         (connection_at (map (row_connection labels.now) rows.now) j) }
-    ensures thin { IfOk result (λ v. AreThin table.new level (pattern table.old.levels level)
-        (map (row_connection labels.now) rows.now) v.items) }
-    ensures added { IfOk result (λ v. AddsPartsOf table.old.levels table.new.levels level v.items) }
+    requires none { conns.old.items ≡ [] }
+    ensures thin { OnOk result (AreThin table.new level (pattern table.old.levels level)
+        (map (row_connection labels.now) rows.now) conns.new.items) }
+    ensures added { OnOk result (AddsPartsOf table.old.levels table.new.levels level conns.new.items) }
     ensures good { IsGood table.new.levels }
     ensures extends { Extends table.old.levels table.new.levels }
     ensures longer { Lengthens table.old.tuples table.new.tuples }
     ensures products { table.new.products ≡ table.old.products }
 {
-    let mut conns = SmallVec::new(alloc);
     for i in 0..rows.len() {
         let row = rows[i];
         let conn = thin(alloc, table, row.callee, labels_of(labels, row))?;
         conns.push(conn)?;
     }
-    Ok(conns)
+    Ok(())
 }
 
 /// The grouping that an A-callee and rows spell. The labels number by first reach; within a row
@@ -194,7 +199,8 @@ pub(crate) fn join(
     ensures longer { Lengthens table.old.tuples table.new.tuples }
     ensures products { table.new.products ≡ table.old.products }
 {
-    let conns = thin_rows(alloc, table, a.level, rows, labels)?;
+    let mut conns = SmallVec::with_capacity(alloc, rows.len())?;
+    thin_rows(alloc, table, a.level, rows, labels, &mut conns)?;
     if are_few_and_differ(conns.as_slice()) {
         table.law();
         return table.intern(a, conns.as_slice());

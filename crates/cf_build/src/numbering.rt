@@ -1,6 +1,7 @@
 //! The numbering of labels by first appearance, as they are read one after another.
 
 ghost use Rattle.std.specs.Prelude.{◌≡◌, ◌<◌, [], All, length, map, IfOk, OnOk};
+ghost use Rattle.smallvec.specs.SmallVec.{HasRoomFor};
 ghost use Rattle.cf_model.specs.Renumbering.{AllDiffer, IsCanon};
 ghost use Rattle.cf_build.specs.Numbering.{IsReady, IsEntered, Numbers};
 
@@ -25,6 +26,7 @@ impl<T: Label> Numbering<T> {
     pub fn new(alloc: Global, count: usize) -> Result<Numbering<T>, NoMemory>
         ensures none { IfOk result (λ n. IsCanon [] n.ranks.items n.different.items) }
         ensures ready { IfOk result (λ n. IsReady T.is_label T.key_of n.different.items n.keys.keys) }
+        ensures room { IfOk result (λ n. HasRoomFor n.ranks count) }
     {
         Ok(Numbering {
             ranks: SmallVec::with_capacity(alloc, count)?,
@@ -40,7 +42,7 @@ impl<T: Label> Numbering<T> {
         requires differ { AllDiffer self.old.different.items }
         ensures keys { OnOk result (self.new.keys.keys ≡ map T.key_of self.old.different.items) }
         ensures different { self.new.different.items ≡ self.old.different.items }
-        ensures ranks { self.new.ranks.items ≡ self.old.ranks.items }
+        ensures ranks { self.new.ranks ≡ self.old.ranks }
     {
         for i in 0..self.different.len() {
             self.keys.insert(self.different[i].key())?;
@@ -53,7 +55,7 @@ impl<T: Label> Numbering<T> {
         requires many { 16 < length self.old.different.items }
         ensures ready { OnOk result (IsReady T.is_label T.key_of self.new.different.items self.new.keys.keys) }
         ensures entered { IfOk result (λ at. IsEntered self.old.different.items self.new.different.items label at) }
-        ensures ranks { self.new.ranks.items ≡ self.old.ranks.items }
+        ensures ranks { self.new.ranks ≡ self.old.ranks }
     {
         let (at, is_new) = self.keys.insert_full(label.key())?;
         if !is_new {
@@ -68,7 +70,7 @@ impl<T: Label> Numbering<T> {
         requires { IsReady T.is_label T.key_of self.old.different.items self.old.keys.keys }
         ensures ready { OnOk result (IsReady T.is_label T.key_of self.new.different.items self.new.keys.keys) }
         ensures entered { IfOk result (λ at. IsEntered self.old.different.items self.new.different.items label at) }
-        ensures ranks { self.new.ranks.items ≡ self.old.ranks.items }
+        ensures ranks { self.new.ranks ≡ self.old.ranks }
     {
         if self.different.len() > FEW {
             return self.enter_hashed(label);
@@ -85,16 +87,17 @@ impl<T: Label> Numbering<T> {
         Ok(at)
     }
 
-    /// Reads more labels.
+    /// Reads more labels, for whose ranks there is room.
     pub fn read(&mut self, labels: &[T]) -> Result<(), NoMemory>
-        requires { IsReady T.is_label T.key_of self.old.different.items self.old.keys.keys }
+        requires ready { IsReady T.is_label T.key_of self.old.different.items self.old.keys.keys }
+        requires room { HasRoomFor self.old.ranks (length labels.now) }
         ensures ready { OnOk result (IsReady T.is_label T.key_of self.new.different.items self.new.keys.keys) }
         ensures numbered { OnOk result (Numbers self.old.ranks.items self.old.different.items labels.now
             self.new.ranks.items self.new.different.items) }
     {
         for &label in labels {
             let rank = self.enter(label)?;
-            self.ranks.push(rank as u64)?;
+            self.ranks.push_reserved(rank as u64);
         }
         Ok(())
     }

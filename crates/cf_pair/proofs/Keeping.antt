@@ -1,6 +1,6 @@
-use Rattle.std.proofs.Common.{rules, ◌≡◌, ℕ, suc, ◌<◌, ◌*◌, Bool, true, List, [], ◌∷◌, ◌++◌, map, refl, sym, ◌∙◌, ap, subst, arith}
+use Rattle.std.proofs.Common.{◌≡◌, ℕ, suc, ◌<◌, ◌*◌, Bool, true, List, [], ◌∷◌, ◌++◌, map, refl, sym, ◌∙◌, ap, subst, arith}
 use Rattle.std.specs.List.{zip}
-use Rattle.std.specs.Prelude.{Result, Ok, Err, OnOk}
+use Rattle.std.specs.Prelude.{Result}
 use Rattle.std.specs.Result.{is_ok, IsErr}
 use Rattle.cf_model.specs.Renumbering.{IsNew}
 use Rattle.cf_model.specs.Patterns.{Pattern, sub}
@@ -88,13 +88,6 @@ charged_kept t u n good x g h hg hh s e new c kept =
     let k = patterns_of t.levels g h in
     charged_self t.products u.products n k.0 k.1 (2 * pair_work k) s e true true c new (omega arith) (sub_self k.0.level k.0.ranks) (sub_self k.1.level k.1.ranks)
     (λ y. (refl, kept ∙ ap (λ (q : Pattern × Pattern). u.products ++ q ∷ []) (pair_kept t.levels u.levels good x g h hg hh)))
-
--- so the steps are charged whether it was kept or not
-pub charged_whole : {T E : Type 0} (t u : Groupings) (n : List (Pattern × Pattern)) → IsGood t.levels → Extends t.levels u.levels → (g h : Gid) → g.at < count t.levels g.level → h.at < count t.levels h.level → (s e : ℕ) → IsNew t.products (patterns_of t.levels g h)
-    → IsCharged t.products u.products (patterns_of t.levels g h).0 (patterns_of t.levels g h).1 g.level (2 * pair_work (patterns_of t.levels g h)) s e true → (r : Result T E) → OnOk r (n ≡ u.products ++ patterns_of u.levels g h ∷ [])
-    → IsCharged t.products n (patterns_of t.levels g h).0 (patterns_of t.levels g h).1 (suc g.level) 0 s e (is_ok r)
-charged_whole {T} {E} t u n good x g h hg hh s e new c (Ok y) kept = charged_kept t u n good x g h hg hh s e new c kept
-charged_whole {T} {E} t u n good x g h hg hh s e new c (Err y) kept = charged_failed {T = T} {E = E} t u.products n g h s e true (Err y) (search rules) new c
 
 -- a product of three groupings stays one of them as the table grows
 pub canon3_kept : (t u : Levels) → IsGood t → Extends t u → (f g h head : Gid) (ts : List (ℕ × ℕ × ℕ)) → f.at < count t f.level → g.at < count t g.level → h.at < count t h.level

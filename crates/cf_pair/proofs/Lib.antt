@@ -5,4 +5,5 @@ pub mod Triples
 pub mod Constants
 pub mod Bounds
 pub mod Keeping
+pub mod PairPlaces
 pub mod Pushing

@@ -1,4 +1,4 @@
-use Rattle.std.proofs.Common.{◌≡◌, ℕ, ◌<◌, ◌≤◌, ◌+◌, List, [], ◌∷◌, ◌++◌, map, sym, ◌∙◌, ap, length, take, get_or, arith, zero-add}
+use Rattle.std.proofs.Common.{◌≡◌, ℕ, ◌<◌, ◌+◌, List, [], ◌∷◌, ◌++◌, map, sym, ◌∙◌, ap, length, take, get_or, arith, zero-add}
 use Rattle.std.proofs.lemmas.List.{take_more, map_push, append_assoc, length-map, get_or-map}
 use Rattle.std.proofs.lemmas.List.FromFn.{map-range_with_len_more, length-range_with_len, get_or-range_with_len}
 use Rattle.std.specs.Prelude.{Result, Ok, Err, OnOk}

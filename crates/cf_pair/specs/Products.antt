@@ -1,7 +1,9 @@
-use Rattle.std.specs.Prelude.{◌≡◌, ℕ, ◌≤◌, ◌<◌, List, [], ◌∷◌, ◌++◌, map, length, Contains, slice_index_or as get_or}
+use Rattle.std.specs.Prelude.{◌≡◌, ℕ, ◌≤◌, ◌<◌, List, [], ◌∷◌, ◌++◌, map, length, slice_get, Contains, slice_index_or as get_or}
 use Rattle.std.specs.List.{zip, range_with_len}
-use Rattle.cf_model.specs.Renumbering.{AllDiffer}
-use Rattle.cf_model.specs.Patterns.{sub}
+use Rattle.std.specs.Option.{option_map_or}
+use Rattle.cf_model.specs.Renumbering.{AllDiffer, distinct}
+use Rattle.cf_model.specs.PairSums.{same_pair}
+use Rattle.cf_model.specs.Patterns.{Pattern, sub}
 use Rattle.cf_model.specs.Diagrams.{Levels, Connection, count, connection_at, pattern, row, IsGood, Extends}
 use Rattle.cf_tuple.specs.Books.{Lengthens}
 use Rattle.cf_table.specs.declared.Gid.{Gid}
@@ -9,6 +11,8 @@ use Rattle.cf_table.specs.declared.BConn.{BConn}
 use Rattle.cf_table.specs.Groupings.{Groupings, connection_of, pattern_of}
 use Rattle.cf_table.specs.Triples.{zip3}
 use Rattle.cf_build.specs.Assembling.{Rowed, ended, IsRow, HasCanon, AddsOnly, row_of, row_labels}
+use Rattle.cf_pair.specs.declared.middles.Middles.{Middles}
+use Rattle.cf_pair.specs.declared.middles.Middles.TheVariants.{Formula, Kept}
 use Rattle.cf_pair.specs.declared.plain.Meeting.{Meeting}
 use Rattle.cf_pair.specs.declared.plain.Meeting.TheVariants.{Equal, AfterZero, BeforeZero}
 use Rattle.cf_pair.specs.declared.plain.Plain.{Plain}
@@ -36,6 +40,20 @@ met BeforeZero e = before_zero e
 -- the pairs of such a product
 abbrev pub plain_pairs : Plain → List (ℕ × ℕ)
 plain_pairs p = map (met p.meeting) (range_with_len 0 p.exits)
+
+-- the pairs of the product of two patterns: the different pairs of their numbers, in order of first appearance
+abbrev pub pattern_pairs : Pattern × Pattern → List (ℕ × ℕ)
+pattern_pairs k = distinct same_pair (zip k.0.ranks k.1.ranks)
+
+-- the pairs of a product, where they stand; `products` are the pairs of patterns whose products are kept
+abbrev pub pairs_at : List (Pattern × Pattern) → Middles → List (ℕ × ℕ)
+pairs_at products (Formula plain) = plain_pairs plain
+pairs_at products (Kept place) = option_map_or pattern_pairs (slice_get products place) []
+
+-- The place is one where a product is kept.
+abbrev pub IsPlace : List (Pattern × Pattern) → Middles → Type 0
+IsPlace products (Formula plain) = Unit {0}
+IsPlace products (Kept place) = place < length products
 
 -- the one of three at a place
 abbrev pub at_place : {A : Type 0} → Place → A → A → A → A
@@ -71,6 +89,11 @@ row_triples t x y z = zip3 (connection_row t x.«to».level x) (connection_row t
 -- A grouping of the table `now` and a list are the product of two groupings of the table `before`, and of three.
 abbrev pub IsPairsOf : (before now : Groupings) → Gid → Gid → Gid → List (ℕ × ℕ) → Type 0
 IsPairsOf before now g h head pairs = HasCanon now.levels head g.level (zip (pattern_of before g) (pattern_of before h)) pairs
+
+-- The same where the pairs stand at a place.
+pub record IsPairedAt (before now : Groupings) (g h head : Gid) (middles : Middles) : Type 0 where
+  pub there : IsPlace now.products middles
+  pub pairs : IsPairsOf before now g h head (pairs_at now.products middles)
 
 abbrev pub IsTriplesOf : (before now : Groupings) → Gid → Gid → Gid → Gid → List (ℕ × ℕ × ℕ) → Type 0
 IsTriplesOf before now f g h head triples =

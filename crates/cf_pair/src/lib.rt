@@ -1,6 +1,7 @@
 // Products: the grouping of the pairs, or of the triples, of the exits of groupings.
 #![tactic(auto)]
 
+mod middles;
 mod pairing;
 mod plain;
 mod tripling;
@@ -48,7 +49,9 @@ pub fn pair<L: Ledger>(
         steps.new ≤ steps.old + 2 * (work_size k.0 * work_size k.1) }
 {
     table.law();
-    pair_groupings(alloc, table, g, h, steps)
+    let (head, middles) = pair_groupings(alloc, table, g, h, steps)?;
+    let pairs = middles.pairs(alloc, table)?;
+    Ok((head, pairs))
 }
 
 /// The same for the triples of exits of three groupings.

@@ -6,9 +6,11 @@ ghost use Rattle.cf_model.specs.Diagrams.{pattern, IsGood, Extends};
 ghost use Rattle.cf_tuple.specs.Books.{Lengthens};
 ghost use Rattle.cf_table.specs.Groupings.{Owns, node_of, patterns_of};
 ghost use Rattle.cf_table.specs.Goodness.{IsGoodOver};
+ghost use Rattle.cf_build.specs.Assembling.{ended};
 ghost use Rattle.cf_pair.specs.Charges.{pair_work, IsChargedFor, IsUnknown};
-ghost use Rattle.cf_pair.specs.Products.{met, plain_pairs, returned2, row_pairs, pair_word, IsPairsOf, AddsPartsOf, ListEach, AddsOnlyIn, GainsRow, IsReturned, IsAdded};
+ghost use Rattle.cf_pair.specs.Products.{met, plain_pairs, returned2, row_pairs, pair_word, pairs_at, IsPlace, IsPairsOf, IsPairedAt, AddsPartsOf, ListEach, AddsOnlyIn, GainsRow, IsReturned, IsAdded};
 
+use crate::middles::Middles;
 use crate::plain::{Plain, plain_product};
 use cf_build::{Rows, assemble_rows};
 use cf_table::steps::Steps;
@@ -99,34 +101,26 @@ fn push_plain(
 
 /// The product of two groupings of one level where it takes no look at what they are made of, or
 /// the memo has it.
-fn known_product(
-    alloc: Global,
-    table: &Table,
-    g: Gid,
-    h: Gid,
-) -> Result<Option<(Gid, Vec<(u64, u64)>)>, NoMemory>
+fn known_product(table: &Table, g: Gid, h: Gid) -> Option<(Gid, Middles)>
     requires levels { h.level ≡ g.level }
     requires good { IsGood table.now.levels }
     requires first { Owns table.now g }
     requires second { Owns table.now h }
-    ensures { IfOk result (λ o. MatchOption o
+    ensures { MatchOption result
         (IsUnknown table.now g h)
-        (λ r. IsPairsOf table.now table.now g h r.0 r.1.items)) }
+        (λ r. IsPairedAt table.now table.now g h r.0 r.1) }
 {
     if let Some(plain) = plain_product(table, g, h) {
-        let pairs = plain.pairs(alloc)?;
-        return Ok(Some((plain.head, pairs)));
+        return Some((plain.head, Middles::Formula(plain)));
     }
-    match table.product_of(g, h) {
-        Some(product) => {
-            let pairs = Vec::from_slice(alloc, product.pairs.as_slice())?;
-            Ok(Some((product.head, pairs)))
-        }
-        None => Ok(None),
+    match table.place_of_product(g, h) {
+        Some(place) => Some((table.product_at(place).head, Middles::Kept(place))),
+        None => None,
     }
 }
 
-/// The product of two groupings of one level, from the memo if it is there.
+/// The product of two groupings of one level, from the memo if it is there. No list of its pairs is
+/// made but the one that the memo keeps.
 #[cycle(pair)]
 pub(crate) fn pair_groupings<L: Ledger>(
     alloc: Global,
@@ -134,13 +128,13 @@ pub(crate) fn pair_groupings<L: Ledger>(
     g: Gid,
     h: Gid,
     steps: &mut Steps<L>,
-) -> Result<(Gid, Vec<(u64, u64)>), NoMemory>
+) -> Result<(Gid, Middles), NoMemory>
     requires level { g.level ≤ 7 }
     requires levels { h.level ≡ g.level }
     requires good { IsGood table.old.levels }
     requires first { Owns table.old g }
     requires second { Owns table.old h }
-    ensures paired { IfOk result (λ r. IsPairsOf table.old table.new g h r.0 r.1.items) }
+    ensures paired { IfOk result (λ r. IsPairedAt table.old table.new g h r.0 r.1) }
     ensures added { IfOk result (λ r. AddsPartsOf table.old table.new r.0) }
     ensures good { IsGood table.new.levels }
     ensures extends { Extends table.old.levels table.new.levels }
@@ -148,13 +142,12 @@ pub(crate) fn pair_groupings<L: Ledger>(
     ensures charged { IsChargedFor table.old table.new g h
         (suc g.level) 0 steps.old steps.new (is_ok result) }
 {
-    if let Some(product) = known_product(alloc, table, g, h)? {
-        return Ok(product);
+    if let Some(known) = known_product(table, g, h) {
+        return Ok(known);
     }
     let (head, pairs) = pair_parts(alloc, table, g, h, steps)?;
-    let kept = Vec::from_slice(alloc, pairs.as_slice())?;
-    table.keep_product(g, h, head, kept)?;
-    Ok((head, pairs))
+    let place = table.keep_product(g, h, head, pairs)?;
+    Ok((head, Middles::Kept(place)))
 }
 
 /// The product of two groupings of one level above 0, from the products of what they are made of.
@@ -183,7 +176,8 @@ fn pair_parts<L: Ledger>(
     let a = table.a_of(g, steps);
     let b = table.a_of(h, steps);
     let (callee, middles) = pair_groupings(alloc, table, a, b, steps)?;
-    let rows = pair_rows(alloc, table, g, h, middles.as_slice(), steps)?;
+    let mut rows = Rows::new(alloc, middles.len(table))?;
+    pair_rows(alloc, table, g, h, middles, &mut rows, steps)?;
     assemble_rows(alloc, table, callee, &rows)
 }
 
@@ -218,49 +212,52 @@ fn pair_row<L: Ledger>(
     }
     let (to, pairs) = pair_parts(alloc, table, b.to, c.to, steps)?;
     push_returned(table, to, pairs.as_slice(), b, c, rows)?;
-    table.keep_product(b.to, c.to, to, pairs)
+    table.keep_product(b.to, c.to, to, pairs)?;
+    Ok(())
 }
 
-/// A row for each pair of middle vertices.
+/// Appends a row for each pair of middle vertices.
 #[cycle(pair)]
 fn pair_rows<L: Ledger>(
     alloc: Global,
     table: &mut Table,
     g: Gid,
     h: Gid,
-    middles: &[(u64, u64)],
+    middles: Middles,
+    rows: &mut Rows<(u64, u64)>,
     steps: &mut Steps<L>,
-) -> Result<Rows<(u64, u64)>, NoMemory>
+) -> Result<(), NoMemory>
     requires above { 1 ≤ g.level }
     requires level { g.level ≤ 7 }
     requires levels { h.level ≡ g.level }
     requires good { IsGood table.old.levels }
     requires first { Owns table.old g }
     requires second { Owns table.old h }
+    requires place { IsPlace table.old.products middles }
     requires middles { All (λ m.
         (m.0 < length (node_of table.old g).connections)
-        × (m.1 < length (node_of table.old h).connections)) middles.now }
-    ensures rows { IfOk result (λ v. ListEach table.new.levels (g.level - 1)
+        × (m.1 < length (node_of table.old h).connections)) (pairs_at table.old.products middles) }
+    requires none { rows.old ≡ ended [] }
+    ensures rows { OnOk result (ListEach table.new.levels (g.level - 1)
         (λ i. pair_word (pattern table.old.levels (g.level - 1))
         (node_of table.old g).connections
         (node_of table.old h).connections
-        (slice_index_or middles.now i (0, 0)))
-        (length middles.now) v.rows) }
-    ensures ended { IfOk result (λ v. v.begun ≡ []) }
-    ensures added { IfOk result (λ v.
-        AddsOnlyIn table.old.levels table.new.levels (g.level - 1) v.rows) }
+        (slice_index_or (pairs_at table.old.products middles) i (0, 0)))
+        (length (pairs_at table.old.products middles)) rows.new.rows) }
+    ensures ended { OnOk result (rows.new.begun ≡ []) }
+    ensures added { OnOk result
+        (AddsOnlyIn table.old.levels table.new.levels (g.level - 1) rows.new.rows) }
     ensures good { IsGood table.new.levels }
     ensures extends { Extends table.old.levels table.new.levels }
     ensures longer { Lengthens table.old.tuples table.new.tuples }
-    ensures charged { IsChargedFor table.old table.new g h
-        g.level (2 * length middles.now) steps.old steps.new (is_ok result) }
+    ensures charged { let own = 2 * length (pairs_at table.old.products middles) in
+        IsChargedFor table.old table.new g h g.level own steps.old steps.new (is_ok result) }
 {
-    let mut rows = Rows::new(alloc, middles.len())?;
-    for i in 0..middles.len() {
-        let middle = middles[i];
+    for i in 0..middles.len(table) {
+        let middle = middles.pair(table, i);
         let b = table.b_of(g, middle.0, steps);
         let c = table.b_of(h, middle.1, steps);
-        pair_row(alloc, table, b, c, &mut rows, steps)?;
+        pair_row(alloc, table, b, c, rows, steps)?;
     }
-    Ok(rows)
+    Ok(())
 }

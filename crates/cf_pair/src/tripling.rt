@@ -6,10 +6,11 @@ ghost use Rattle.cf_model.specs.Diagrams.{pattern, IsGood, Extends};
 ghost use Rattle.cf_tuple.specs.Books.{Lengthens};
 ghost use Rattle.cf_table.specs.Groupings.{Owns, node_of, pattern_of, exits_of};
 ghost use Rattle.cf_table.specs.Goodness.{IsGoodOver};
-ghost use Rattle.cf_build.specs.Assembling.{HasCanon};
+ghost use Rattle.cf_build.specs.Assembling.{ended, HasCanon};
 ghost use Rattle.cf_table.specs.Triples.{zip3};
-ghost use Rattle.cf_pair.specs.Products.{at_place, zero_put, returned3, row_triples, triple_word, IsTriplesOf, AddsPartsOf, ListEach, AddsOnlyIn, GainsRow, IsReturned, IsAdded};
+ghost use Rattle.cf_pair.specs.Products.{at_place, zero_put, returned3, row_triples, triple_word, pairs_at, IsPlace, IsTriplesOf, AddsPartsOf, ListEach, AddsOnlyIn, GainsRow, IsReturned, IsAdded};
 
+use crate::middles::Middles;
 use crate::pairing::pair_groupings;
 use cf_build::{Rows, assemble_rows};
 use cf_table::steps::Steps;
@@ -66,16 +67,20 @@ fn with_zero(place: Place, pair: (u64, u64)) -> (u64, u64, u64)
     }
 }
 
+/// Each pair of a product with exit 0 at a place.
 fn pairs_with_zero(
     alloc: Global,
+    table: &Table,
     place: Place,
-    pairs: &[(u64, u64)],
+    pairs: Middles,
 ) -> Result<Vec<(u64, u64, u64)>, NoMemory>
-    ensures { IfOk result (λ v. v.items ≡ map (zero_put place) pairs.now) }
+    requires { IsPlace table.now.products pairs }
+    ensures { IfOk result (λ v. v.items ≡ map (zero_put place) (pairs_at table.now.products pairs)) }
 {
-    let mut triples = Vec::with_capacity(alloc, pairs.len())?;
-    for &pair in pairs {
-        triples.push(with_zero(place, pair))?;
+    let count = pairs.len(table);
+    let mut triples = Vec::with_capacity(alloc, count)?;
+    for i in 0..count {
+        triples.push(with_zero(place, pairs.pair(table, i)))?;
     }
     Ok(triples)
 }
@@ -102,7 +107,7 @@ fn pair_with_zero<L: Ledger>(
     ensures longer { Lengthens table.old.tuples table.new.tuples }
 {
     let (product, pairs) = pair_groupings(alloc, table, g, h, steps)?;
-    let triples = pairs_with_zero(alloc, place, pairs.as_slice())?;
+    let triples = pairs_with_zero(alloc, table, place, pairs)?;
     Ok((product, triples))
 }
 
@@ -310,7 +315,8 @@ fn triple_parts<L: Ledger>(
     let b = table.a_of(g, steps);
     let c = table.a_of(h, steps);
     let (callee, middles) = triple_groupings(alloc, table, a, b, c, steps)?;
-    let rows = triple_rows(alloc, table, f, g, h, middles.as_slice(), steps)?;
+    let mut rows = Rows::new(alloc, middles.len())?;
+    triple_rows(alloc, table, f, g, h, middles.as_slice(), &mut rows, steps)?;
     assemble_rows(alloc, table, callee, &rows)
 }
 
@@ -357,7 +363,7 @@ fn triple_row<L: Ledger>(
     table.keep_triple(x.to, y.to, z.to, to, triples)
 }
 
-/// A row for each three middle vertices.
+/// Appends a row for each three middle vertices.
 #[cycle(triple)]
 fn triple_rows<L: Ledger>(
     alloc: Global,
@@ -366,8 +372,9 @@ fn triple_rows<L: Ledger>(
     g: Gid,
     h: Gid,
     middles: &[(u64, u64, u64)],
+    rows: &mut Rows<(u64, u64, u64)>,
     steps: &mut Steps<L>,
-) -> Result<Rows<(u64, u64, u64)>, NoMemory>
+) -> Result<(), NoMemory>
     requires above { 1 ≤ f.level }
     requires level { f.level ≤ 7 }
     requires second_level { g.level ≡ f.level }
@@ -380,27 +387,27 @@ fn triple_rows<L: Ledger>(
         (m.0 < length (node_of table.old f).connections)
         × (m.1 < length (node_of table.old g).connections)
         × (m.2 < length (node_of table.old h).connections)) middles.now }
-    ensures rows { IfOk result (λ v. ListEach table.new.levels (f.level - 1)
+    requires none { rows.old ≡ ended [] }
+    ensures rows { OnOk result (ListEach table.new.levels (f.level - 1)
         (λ i. triple_word (pattern table.old.levels (f.level - 1))
         (node_of table.old f).connections
         (node_of table.old g).connections
         (node_of table.old h).connections
         (slice_index_or middles.now i (0, 0, 0)))
-        (length middles.now) v.rows) }
-    ensures ended { IfOk result (λ v. v.begun ≡ []) }
-    ensures added { IfOk result (λ v.
-        AddsOnlyIn table.old.levels table.new.levels (f.level - 1) v.rows) }
+        (length middles.now) rows.new.rows) }
+    ensures ended { OnOk result (rows.new.begun ≡ []) }
+    ensures added { OnOk result
+        (AddsOnlyIn table.old.levels table.new.levels (f.level - 1) rows.new.rows) }
     ensures good { IsGood table.new.levels }
     ensures extends { Extends table.old.levels table.new.levels }
     ensures longer { Lengthens table.old.tuples table.new.tuples }
 {
-    let mut rows = Rows::new(alloc, middles.len())?;
     for i in 0..middles.len() {
         let middle = middles[i];
         let x = table.b_of(f, middle.0, steps);
         let y = table.b_of(g, middle.1, steps);
         let z = table.b_of(h, middle.2, steps);
-        triple_row(alloc, table, x, y, z, &mut rows, steps)?;
+        triple_row(alloc, table, x, y, z, rows, steps)?;
     }
-    Ok(rows)
+    Ok(())
 }

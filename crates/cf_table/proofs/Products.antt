@@ -1,23 +1,24 @@
-use Rattle.std.proofs.Common.{◌≡◌, ℕ, zero, suc, ◌<◌, List, [], ◌∷◌, ◌++◌, Bool, true, false, ◌&&◌, nat_eq, Bor, Option, Some, None, MatchOption, refl, sym, ◌∙◌, ap, subst, arith, inl, inr, ◌⊎◌}
+use Rattle.std.proofs.Common.{◌≡◌, ℕ, zero, suc, ◌<◌, List, [], ◌∷◌, ◌++◌, Bool, true, false, ◌&&◌, nat_eq, Bor, Option, Some, None, IfSome, MatchOption, position, option_map, refl, sym, ◌∙◌, ap, subst, arith, inl, inr, ◌⊎◌}
 use Rattle.std.specs.List.{slice_get, zip}
-use Rattle.std.specs.Map.{lookup}
-use Rattle.std.specs.Option.{option_copied}
+use Rattle.std.specs.Map.{keys_of, lookup}
+use Rattle.std.specs.Option.{is_some, option_copied}
 use Rattle.std.proofs.lemmas.Bool.{false≢true}
 use Rattle.std.proofs.lemmas.Bool.Decides.{nat_tests}
-use Rattle.std.proofs.lemmas.List.{map_push}
-use Rattle.std.proofs.lemmas.Option.{same_Some}
+use Rattle.std.proofs.lemmas.List.{map_push, length-map}
+use Rattle.std.proofs.lemmas.List.Quantifiers.{position-Some}
+use Rattle.std.proofs.lemmas.Option.{same_Some, slice_get-map, get_or_from_slice_get}
 use Rattle.std.proofs.lemmas.Map.Entries.{place_from_lookup, lookup_head, lookup_tail}
 use Rattle.cf_model.specs.Renumbering.{AllDiffer, IsNew, IsCanon}
 use Rattle.cf_model.specs.Patterns.{Pattern}
 use Rattle.cf_model.specs.Diagrams.{Levels, count, pattern, IsGood, Extends}
 use Rattle.cf_model.proofs.Canonicity.{canonical}
-use Rattle.cf_model.proofs.CanonLaws.{AllDiffer-push}
+use Rattle.cf_model.proofs.CanonLaws.{AllDiffer-push, read}
 use Rattle.cf_model.proofs.Growing.{pattern_kept}
 use Rattle.cf_table.specs.declared.Gid.{Gid}
 use Rattle.cf_table.specs.declared.Operands.{Operands}
 use Rattle.cf_table.specs.declared.Product.{Product}
 use Rattle.cf_table.specs.contracts.OperandsPartialEq.TheImpl as eq
-use Rattle.cf_table.specs.Groupings.{IsProduct, patterns_of}
+use Rattle.cf_table.specs.Groupings.{IsProduct, IsProductOf, patterns_of}
 use Rattle.cf_table.specs.Kept.{shown_products, HoldsProducts}
 use Rattle.cf_table.proofs.Told.{same_gid}
 
@@ -87,6 +88,37 @@ looked_up t good es holds g h hg hh (Some b) e =
     let s = same_key (key g h) p.1 p.3 in
     let r : IsProduct t p.1.left p.1.right b.now.head b.now.pairs.items = holds.are p.0 (p.1, b.now) p.2 in
     subst (λ (x : Gid). IsProduct t g x b.now.head b.now.pairs.items) (sym s.1) (subst (λ (x : Gid). IsProduct t x p.1.right b.now.head b.now.pairs.items) (sym s.0) r)
+
+-- the entry at the place of a key
+found_at : (k : Operands) (es : List (Operands × Product)) (i : ℕ) → position (same k) (keys_of es) ≡ Some i → (e : Operands × Product) × (slice_get es i ≡ Some e) × (same k e.0 ≡ true)
+found_at k es i h =
+    let p = position-Some (same k) (keys_of es) i k h in
+    let x = read es i (omega (arith, p.0, length-map es (λ (e : Operands × Product). e.0))) in
+    let at : slice_get (keys_of es) i ≡ Some x.0.0 = slice_get-map (λ (e : Operands × Product). e.0) es i ∙ ap (λ (o : Option (Operands × Product)). option_map (λ (e : Operands × Product). e.0) o) x.1 in
+    (x.0, x.1, ap (same k) (sym (get_or_from_slice_get (keys_of es) i x.0.0 k at)) ∙ p.1)
+
+none_so : (o : Option Product) → is_some o ≡ false → o ≡ None
+none_so None h = refl
+none_so (Some v) h = cc
+
+-- the place that a look-up by ids finds has the pair of patterns
+pub placed : (t : Levels) → IsGood t → (es : List (Operands × Product)) → HoldsProducts t es → (g h : Gid) → g.at < count t g.level → h.at < count t h.level → (o : Option ℕ) → o ≡ position (same (key g h)) (keys_of es) → is_some o ≡ is_some (lookup (same (key g h)) es)
+    → MatchOption o (IsNew (shown_products t es) (patterns_of t g h)) (λ i. slice_get (shown_products t es) i ≡ Some (patterns_of t g h))
+placed t good es holds g h hg hh None e f = looked_up t good es holds g h hg hh None (sym (none_so (lookup (same (key g h)) es) (sym f)))
+placed t good es holds g h hg hh (Some i) e f =
+    let x = found_at (key g h) es i (sym e) in
+    let s = same_key (key g h) x.0.0 x.2 in
+    entry_shown t es i x.0 x.1 ∙ ap (λ (a : Gid). Some (patterns_of t a x.0.0.right)) (sym s.0) ∙ ap (λ (a : Gid). Some (patterns_of t g a)) (sym s.1)
+
+-- what stands at a place is the product of the patterns that are shown there
+pub product_shown : (t : Levels) (es : List (Operands × Product)) → HoldsProducts t es → (i : ℕ) (e : Operands × Product) → slice_get es i ≡ Some e → IfSome (slice_get (shown_products t es) i) (λ k. IsProductOf t k e.1.head e.1.pairs.items)
+product_shown t es holds i e h =
+    let p = holds.are i e h in
+    subst (λ (o : Option (Pattern × Pattern)). IfSome o (λ k. IsProductOf t k e.1.head e.1.pairs.items)) (sym (entry_shown t es i e h)) (record { level = p.level; there = p.there; canon = p.canon })
+
+-- a product of two patterns is one of any two groupings that have them
+pub product_of_patterns : (t : Levels) (g h head : Gid) (pairs : List (ℕ × ℕ)) → g.at < count t g.level → h.at < count t h.level → h.level ≡ g.level → IsProductOf t (patterns_of t g h) head pairs → IsProduct t g h head pairs
+product_of_patterns t g h head pairs hg hh lev p = record { first = hg; second = hh; levels = lev; level = p.level; there = p.there; canon = p.canon }
 
 -- a pair of patterns that isn't there is not found by the ids
 pub not_found : (t : Levels) (es : List (Operands × Product)) (g h : Gid) → IsNew (shown_products t es) (patterns_of t g h) → lookup (same (key g h)) es ≡ None

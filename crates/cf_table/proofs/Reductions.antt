@@ -48,3 +48,10 @@ reductions_kept t u good x es holds i e q =
       there = omega (arith, r.there, x.more h.level);
       is_it = pattern_kept t u good x h.level h.at r.there ∙ r.is_it ∙ ap (λ (p : List ℕ). map (λ exit. get_or e.0.classes.items exit 0) p) (sym (pattern_kept t u good x g.level g.at r.owned));
     }
+
+-- the reduction that a key stands for
+pub reduction_of_key : (t : Levels) (k : Classed) (g : Gid) (classes : List ℕ) (h : Gid) → k.grouping ≡ g → k.classes.items ≡ classes → IsReduction t k.grouping k.classes.items h → IsReduction t g classes h
+reduction_of_key t k g classes h a b r = subst (λ (x : Gid). IsReduction t x classes h) a (subst (λ (cs : List ℕ). IsReduction t k.grouping cs h) b r)
+
+pub reduction_by : (t : Levels) (k : Classed) (g : Gid) (classes : List ℕ) (h : Gid) → k.grouping ≡ g → k.classes.items ≡ classes → IsReduction t g classes h → IsReduction t k.grouping k.classes.items h
+reduction_by t k g classes h a b r = subst (λ (x : Gid). IsReduction t x k.classes.items h) (sym a) (subst (λ (cs : List ℕ). IsReduction t g cs h) (sym b) r)

@@ -56,6 +56,13 @@ pub record IsProduct (t : Levels) (g h head : Gid) (pairs : List (ℕ × ℕ)) :
   pub there : head.at < count t head.level
   pub canon : IsCanon (zip (pattern t g.level g.at) (pattern t h.level h.at)) (pattern t head.level head.at) pairs
 
+-- The grouping is in the table, at the level of the first of two patterns, and its pattern and the pairs are the canon of
+-- the pairs of their numbers, place by place. It is the same for any groupings with these patterns.
+pub record IsProductOf (t : Levels) (k : Pattern × Pattern) (head : Gid) (pairs : List (ℕ × ℕ)) : Type 0 where
+  pub level : head.level ≡ k.0.level
+  pub there : head.at < count t head.level
+  pub canon : IsCanon (zip k.0.ranks k.1.ranks) (pattern t head.level head.at) pairs
+
 -- The two groupings are in the table, at one level, and the second has the first one's pattern with each exit replaced
 -- by its class.
 pub record IsReduction (t : Levels) (g : Gid) (classes : List ℕ) (h : Gid) : Type 0 where

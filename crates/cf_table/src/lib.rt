@@ -22,6 +22,7 @@ ghost use Rattle.cf_table.specs.Groupings.{
   pattern_of,
   patterns_of,
   IsProduct,
+  IsProductOf,
   IsReduction,
   exits_of,
   connection_of,
@@ -108,11 +109,23 @@ pub struct TripleProduct {
     pub triples: Vec<(u64, u64, u64)>,
 }
 
-/// A grouping and a class for each of its exits.
+/// A grouping and a class for each of its exits, by which a reduction is kept. Up to eight classes
+/// stand in the value.
 #[derive(Debug, PartialEq, Eq, Hash, Drop)]
-struct Classed {
-    grouping: Gid,
-    classes: SmallVec<u64, 8>,
+pub struct Classed {
+    pub grouping: Gid,
+    pub classes: SmallVec<u64, 8>,
+}
+
+impl Classed {
+    /// A grouping and its classes, which are copied.
+    pub fn new(alloc: Global, grouping: Gid, classes: &[u64]) -> Result<Classed, NoMemory>
+        ensures grouping { IfOk result (λ c. c.grouping ≡ grouping) }
+        ensures classes { IfOk result (λ c. c.classes.items ≡ classes.now) }
+    {
+        let classes = SmallVec::from_slice(alloc, classes)?;
+        Ok(Classed { grouping, classes })
+    }
 }
 
 /// The groupings of eight levels, their return tuples, and memos of products and reductions. It is
@@ -261,24 +274,47 @@ impl Table {
         self.products.get(&Operands { left: g, right: h })
     }
 
-    /// Keeps a product of two groupings that the memo hasn't.
+    /// The place of such a product in the memo, which it keeps until products are forgotten.
+    pub fn place_of_product(&self, g: Gid, h: Gid) -> Option<usize>
+        requires first { Owns self.now g }
+        requires second { Owns self.now h }
+        ensures { MatchOption result
+            (IsNew self.now.products (patterns_of self.now.levels g h))
+            (λ place. slice_get self.now.products place ≡ Some (patterns_of self.now.levels g h)) }
+    {
+        self.products.get_index_of(&Operands { left: g, right: h })
+    }
+
+    /// The product at a place of the memo.
+    pub fn product_at(&self, place: usize) -> &Product
+        requires { place < length self.now.products }
+        ensures { IfSome (slice_get self.now.products place)
+            (λ k. IsProductOf self.now.levels k result.now.head result.now.pairs.items) }
+    {
+        let (_, product) = self.products.get_index(place).unwrap();
+        product
+    }
+
+    /// Keeps a product of two groupings that the memo hasn't, and answers its place.
     pub fn keep_product(
         &mut self,
         g: Gid,
         h: Gid,
         head: Gid,
         pairs: Vec<(u64, u64)>,
-    ) -> Result<(), NoMemory>
+    ) -> Result<usize, NoMemory>
         requires product { IsProduct self.old.levels g h head pairs.items }
         requires new { IsNew self.old.products (patterns_of self.old.levels g h) }
         ensures kept { OnOk result (self.new.products ≡ self.old.products ++ patterns_of self.old.levels g h ∷ []) }
+        ensures place { IfOk result (λ place. place ≡ length self.old.products) }
         ensures levels { self.new.levels ≡ self.old.levels }
         ensures tuples { self.new.tuples ≡ self.old.tuples }
         ensures no_memory { OnErr result (self.new ≡ self.old) }
     {
+        let place = self.products.len();
         self.products
             .insert(Operands { left: g, right: h }, Product { head, pairs })?;
-        Ok(())
+        Ok(place)
     }
 
     /// The product of three groupings of one level, if the memo has it.
@@ -314,39 +350,19 @@ impl Table {
         Ok(())
     }
 
-    /// The grouping with each exit of g replaced by its class, if the memo has it.
-    pub fn reduction_of(
-        &self,
-        alloc: Global,
-        g: Gid,
-        classes: &[u64],
-    ) -> Result<Option<Gid>, NoMemory>
-        ensures { IfOk result (λ o. IfSome o (λ h. IsReduction self.now.levels g classes.now h)) }
+    /// The grouping with each exit replaced by its class, if the memo has it.
+    pub fn reduction_of(&self, key: &Classed) -> Option<Gid>
+        ensures { IfSome result (λ h.
+            IsReduction self.now.levels key.now.grouping key.now.classes.items h) }
     {
-        let classes = SmallVec::from_slice(alloc, classes)?;
-        let key = Classed {
-            grouping: g,
-            classes,
-        };
-        Ok(self.reductions.get(&key).copied())
+        self.reductions.get(key).copied()
     }
 
     /// Keeps such a grouping.
-    pub fn keep_reduction(
-        &mut self,
-        alloc: Global,
-        g: Gid,
-        classes: &[u64],
-        h: Gid,
-    ) -> Result<(), NoMemory>
-        requires { IsReduction self.old.levels g classes.now h }
+    pub fn keep_reduction(&mut self, key: Classed, h: Gid) -> Result<(), NoMemory>
+        requires { IsReduction self.old.levels key.grouping key.classes.items h }
         ensures { self.new ≡ self.old }
     {
-        let classes = SmallVec::from_slice(alloc, classes)?;
-        let key = Classed {
-            grouping: g,
-            classes,
-        };
         self.reductions.insert(key, h)?;
         Ok(())
     }

@@ -1,4 +1,4 @@
-use Rattle.std.proofs.Common.{suc, List, map, subst, IfOk}
+use Rattle.std.proofs.Common.{suc, map, subst, IfOk}
 use Rattle.cf_model.specs.Diagrams.{pattern}
 use Rattle.cf_build.specs.Assembling.{Rowed, HasCanon, row_of, labels_over}
 use Rattle.cf_build.proofs.assemble.Goals as goal

@@ -21,16 +21,17 @@ use Rattle.cf_build.proofs.PartLaws.{join_added}
 use Rattle.cf_model.proofs.Canonicity.{level_holds}
 use Rattle.cf_model.proofs.Growth.{Under-width}
 use Rattle.cf_build.proofs.Words.{classed_same}
+use Rattle.cf_table.proofs.Reductions.{reduction_by, reduction_of_key}
 use Rattle.cf_build.proofs.merge.+merge.Goals as goal
 
 pub join-merge-requires : goal.join-merge-requires
 join-merge-requires t c =
     let l = c.args.a.level in
-    let owned : c.args.a.at < count c.thin_rows.new.table.levels l = omega (arith, c.requires.loose.callee_exists, c.in_ok-conns.ensures.extends.more l) in
+    let owned : c.args.a.at < count c.thin_rows.new.table.levels l = omega (arith, c.requires.loose.callee_exists, c.in_ok-thin_rows.ensures.extends.more l) in
     let canon : IsCanon c.as_slice-2.result.now c.in_ok-classes.classes.items c.in_ok-classes.bs.items = c.in_ok-classes.ensures.canon in
-    let rows : length c.in_ok-conns.conns.items ≡ length (map (row_connection c.args.labels.now) c.args.rows.now) = c.in_ok-conns.ensures.thin.long in
+    let rows : length c.thin_rows.new.conns.items ≡ length (map (row_connection c.args.labels.now) c.args.rows.now) = c.in_ok-thin_rows.ensures.thin.long in
     let long : length c.as_slice-3.result.now ≡ exits c.thin_rows.new.table.levels l c.args.a.at =
-    ap length c.as_slice-3.ensures ∙ canon_length _ _ _ canon ∙ ap length c.as_slice-2.ensures ∙ rows ∙ c.requires.loose.middles ∙ sym (exits_kept c.args.table.now.levels c.thin_rows.new.table.levels c.in_ok-conns.ensures.extends l c.args.a.at c.requires.loose.callee_exists) in
+    ap length c.as_slice-3.ensures ∙ canon_length _ _ _ canon ∙ ap length c.as_slice-2.ensures ∙ rows ∙ c.requires.loose.middles ∙ sym (exits_kept c.args.table.now.levels c.thin_rows.new.table.levels c.in_ok-thin_rows.ensures.extends l c.args.a.at c.requires.loose.callee_exists) in
     let grow : Grows 0 c.as_slice-3.result.now = subst (λ (v : List ℕ). Grows 0 v) (sym c.as_slice-3.ensures) canon.grows in
     let seven : l ≤ 7 = omega (arith, c.requires.level) in
     search rules
@@ -42,9 +43,9 @@ join-intern-requires-2 t c =
     let j : Joining c.args.table.now c.thin_rows.new.table c.merge.new.table l (loose_node c.args.a.at c.args.rows.now c.args.labels.now) c.as_slice-2.result.now c.as_slice-4.result.now c.as_slice-3.result.now c.in_ok-callee.callee.at = record {
       good = c.requires.good;
       is_loose = c.requires.loose;
-      good1 = c.in_ok-conns.ensures.good;
-      extends1 = c.in_ok-conns.ensures.extends;
-      thin = subst (λ (v : List BConn). AreThin c.thin_rows.new.table l (pattern c.args.table.now.levels l) (map (row_connection c.args.labels.now) c.args.rows.now) v) (sym c.as_slice-2.ensures) c.in_ok-conns.ensures.thin;
+      good1 = c.in_ok-thin_rows.ensures.good;
+      extends1 = c.in_ok-thin_rows.ensures.extends;
+      thin = subst (λ (v : List BConn). AreThin c.thin_rows.new.table l (pattern c.args.table.now.levels l) (map (row_connection c.args.labels.now) c.args.rows.now) v) (sym c.as_slice-2.ensures) c.in_ok-thin_rows.ensures.thin;
       canon = subst (λ (v : List ℕ). IsCanon c.as_slice-2.result.now v c.as_slice-4.result.now) (sym c.as_slice-3.ensures) (subst (λ (v : List BConn). IsCanon c.as_slice-2.result.now c.in_ok-classes.classes.items v) (sym c.as_slice-4.ensures.value) c.in_ok-classes.ensures.canon);
       good2 = c.in_ok-callee.ensures.good;
       extends2 = c.in_ok-callee.ensures.extends;
@@ -62,9 +63,9 @@ join-returns-clause-joined t c =
     let j : Joining c.args.table.now c.thin_rows.new.table c.merge.new.table l (loose_node c.args.a.at c.args.rows.now c.args.labels.now) c.as_slice-2.result.now c.as_slice-4.result.now c.as_slice-3.result.now c.in_ok-callee.callee.at = record {
       good = c.requires.good;
       is_loose = c.requires.loose;
-      good1 = c.in_ok-conns.ensures.good;
-      extends1 = c.in_ok-conns.ensures.extends;
-      thin = subst (λ (v : List BConn). AreThin c.thin_rows.new.table l (pattern c.args.table.now.levels l) (map (row_connection c.args.labels.now) c.args.rows.now) v) (sym c.as_slice-2.ensures) c.in_ok-conns.ensures.thin;
+      good1 = c.in_ok-thin_rows.ensures.good;
+      extends1 = c.in_ok-thin_rows.ensures.extends;
+      thin = subst (λ (v : List BConn). AreThin c.thin_rows.new.table l (pattern c.args.table.now.levels l) (map (row_connection c.args.labels.now) c.args.rows.now) v) (sym c.as_slice-2.ensures) c.in_ok-thin_rows.ensures.thin;
       canon = subst (λ (v : List ℕ). IsCanon c.as_slice-2.result.now v c.as_slice-4.result.now) (sym c.as_slice-3.ensures) (subst (λ (v : List BConn). IsCanon c.as_slice-2.result.now c.in_ok-classes.classes.items v) (sym c.as_slice-4.ensures.value) c.in_ok-classes.ensures.canon);
       good2 = c.in_ok-callee.ensures.good;
       extends2 = c.in_ok-callee.ensures.extends;
@@ -81,12 +82,12 @@ merge-join-requires t c =
     let l = c.a_callee-a.result.level in
     let d = loose_node c.a_callee-a.result.at c.as_slice.result.now c.as_slice-2.result.now in
     let d_is : d ≡ made c.a_callee-a.result.at (map (classed_connection c.args.classes.now) (node c.args.table.now.levels c.args.g.level c.args.g.at).connections) =
-    ap (λ (v : List Row). loose_node c.a_callee-a.result.at v c.as_slice-2.result.now) c.as_slice.ensures ∙ ap (λ (v : List ℕ). loose_node c.a_callee-a.result.at c.in_ok-rows.rows.items v) c.as_slice-2.ensures
-    ∙ ap (λ (v : List Connection). made c.a_callee-a.result.at v) c.in_ok-rows.ensures.rows in
+    ap (λ (v : List Row). loose_node c.a_callee-a.result.at v c.as_slice-2.result.now) c.as_slice.ensures ∙ ap (λ (v : List ℕ). loose_node c.a_callee-a.result.at c.fill_classed_rows.new.rows.items v) c.as_slice-2.ensures
+    ∙ ap (λ (v : List Connection). made c.a_callee-a.result.at v) c.in_ok-fill_classed_rows.ensures.rows in
     let r : IsLooseNode (count c.args.table.now.levels l) (exits c.args.table.now.levels l) d = (merging c.args.table.now.levels c.requires.good c.args.g.level l c.args.g.at c.a_callee-a.result.at c.args.classes.now d c.a_callee-a.ensures.level c.requires.owned c.a_callee-a.ensures.callee d_is c.requires.entries c.requires.grows).0 in
     let six : l ≤ 6 = omega (arith, c.requires.level, c.a_callee-a.ensures.level) in
-    let turn : AreInTurn 0 c.as_slice.result.now (length c.as_slice-2.result.now) = subst (λ (v : List Row). AreInTurn 0 v (length c.as_slice-2.result.now)) (sym c.as_slice.ensures) (subst (λ (v : List ℕ). AreInTurn 0 c.in_ok-rows.rows.items (length v)) (sym c.as_slice-2.ensures) c.in_ok-rows.ensures.in_turn) in
-    let all : All (λ r. r.callee.level ≡ l) c.as_slice.result.now = subst (λ (v : List Row). All (λ r. r.callee.level ≡ l) v) (sym c.as_slice.ensures) (λ k e h. omega (arith, c.in_ok-rows.ensures.levels k e h, c.a_callee-a.ensures.level)) in
+    let turn : AreInTurn 0 c.as_slice.result.now (length c.as_slice-2.result.now) = subst (λ (v : List Row). AreInTurn 0 v (length c.as_slice-2.result.now)) (sym c.as_slice.ensures) (subst (λ (v : List ℕ). AreInTurn 0 c.fill_classed_rows.new.rows.items (length v)) (sym c.as_slice-2.ensures) c.in_ok-fill_classed_rows.ensures.in_turn) in
+    let all : All (λ r. r.callee.level ≡ l) c.as_slice.result.now = subst (λ (v : List Row). All (λ r. r.callee.level ≡ l) v) (sym c.as_slice.ensures) (λ k e h. omega (arith, c.in_ok-fill_classed_rows.ensures.levels k e h, c.a_callee-a.ensures.level)) in
     search rules
 
 pub merge-returns-clause-merged : goal.merge-returns-clause-merged
@@ -94,8 +95,8 @@ merge-returns-clause-merged t c =
     let l = c.a_callee-a.result.level in
     let d = loose_node c.a_callee-a.result.at c.as_slice.result.now c.as_slice-2.result.now in
     let d_is : d ≡ made c.a_callee-a.result.at (map (classed_connection c.args.classes.now) (node c.args.table.now.levels c.args.g.level c.args.g.at).connections) =
-    ap (λ (v : List Row). loose_node c.a_callee-a.result.at v c.as_slice-2.result.now) c.as_slice.ensures ∙ ap (λ (v : List ℕ). loose_node c.a_callee-a.result.at c.in_ok-rows.rows.items v) c.as_slice-2.ensures
-    ∙ ap (λ (v : List Connection). made c.a_callee-a.result.at v) c.in_ok-rows.ensures.rows in
+    ap (λ (v : List Row). loose_node c.a_callee-a.result.at v c.as_slice-2.result.now) c.as_slice.ensures ∙ ap (λ (v : List ℕ). loose_node c.a_callee-a.result.at c.fill_classed_rows.new.rows.items v) c.as_slice-2.ensures
+    ∙ ap (λ (v : List Connection). made c.a_callee-a.result.at v) c.in_ok-fill_classed_rows.ensures.rows in
     let r = (merging c.args.table.now.levels c.requires.good c.args.g.level l c.args.g.at c.a_callee-a.result.at c.args.classes.now d c.a_callee-a.ensures.level c.requires.owned c.a_callee-a.ensures.callee d_is c.requires.entries c.requires.grows).1 in
     let s = c.in_ok-merged.ensures.joined in
     subst (λ (u : Groupings). Stands u.levels c.in_ok-merged.merged c.args.g.level (classed c.args.classes.now (pattern c.args.table.now.levels c.args.g.level c.args.g.at))) (sym c.in_ok-keep_reduction.ensures)
@@ -106,17 +107,24 @@ merge-keep_reduction-requires t c =
     let l = c.a_callee-a.result.level in
     let d = loose_node c.a_callee-a.result.at c.as_slice.result.now c.as_slice-2.result.now in
     let d_is : d ≡ made c.a_callee-a.result.at (map (classed_connection c.args.classes.now) (node c.args.table.now.levels c.args.g.level c.args.g.at).connections) =
-    ap (λ (v : List Row). loose_node c.a_callee-a.result.at v c.as_slice-2.result.now) c.as_slice.ensures ∙ ap (λ (v : List ℕ). loose_node c.a_callee-a.result.at c.in_ok-rows.rows.items v) c.as_slice-2.ensures
-    ∙ ap (λ (v : List Connection). made c.a_callee-a.result.at v) c.in_ok-rows.ensures.rows in
+    ap (λ (v : List Row). loose_node c.a_callee-a.result.at v c.as_slice-2.result.now) c.as_slice.ensures ∙ ap (λ (v : List ℕ). loose_node c.a_callee-a.result.at c.fill_classed_rows.new.rows.items v) c.as_slice-2.ensures
+    ∙ ap (λ (v : List Connection). made c.a_callee-a.result.at v) c.in_ok-fill_classed_rows.ensures.rows in
     let r = (merging c.args.table.now.levels c.requires.good c.args.g.level l c.args.g.at c.a_callee-a.result.at c.args.classes.now d c.a_callee-a.ensures.level c.requires.owned c.a_callee-a.ensures.callee d_is c.requires.entries c.requires.grows).1 in
     let s = c.in_ok-merged.ensures.joined in
     let x = c.in_ok-merged.ensures.extends in
-    record {
+    let k = c.in_ok-key.ensures in
+    reduction_by c.join.new.table.levels c.in_ok-key.key c.args.g c.args.classes.now c.in_ok-merged.merged k.grouping k.classes (record {
       owned = omega (arith, c.requires.owned, x.more c.args.g.level);
       level = s.level ∙ sym (add-one l) ∙ c.a_callee-a.ensures.level;
       there = s.there;
       is_it = s.is_it ∙ r ∙ ap (λ (p : List ℕ). classed c.args.classes.now p) (sym (pattern_kept c.args.table.now.levels c.join.new.table.levels c.requires.good x c.args.g.level c.args.g.at c.requires.owned));
-    }
+    })
+
+pub merge-returns-in-Some-clause-merged : goal.merge-returns-in-Some-clause-merged
+merge-returns-in-Some-clause-merged t c =
+    let k = c.in_ok-key.ensures in
+    let r = reduction_of_key c.args.table.now.levels c.in_ok-key.key c.args.g c.args.classes.now c.in-Some.known k.grouping k.classes c.in-Some.ensures in
+    record { level = r.level; there = r.there; is_it = r.is_it }
 
 pub thin-returns-clause-thin : goal.thin-returns-clause-thin
 thin-returns-clause-thin t c =
@@ -175,18 +183,18 @@ join-returns-clause-added t c =
     let v = c.intern-2.new.self.levels in
     let m = c.in_ok-callee.ensures.merged in
     let a = c.in_ok-callee.callee.at in
-    let all = c.in_ok-conns.conns.items in
+    let all = c.thin_rows.new.conns.items in
     let bs = c.as_slice-4.result.now in
     let classes = c.in_ok-classes.classes.items in
-    let thin = c.in_ok-conns.ensures.thin in
+    let thin = c.in_ok-thin_rows.ensures.thin in
     let canon : IsCanon all classes bs = subst (λ (w : List BConn). IsCanon w classes bs) c.as_slice-2.ensures (subst (λ (w : List BConn). IsCanon c.as_slice-2.result.now classes w) (sym c.as_slice-4.ensures.value) c.in_ok-classes.ensures.canon) in
     let ca : a < count u l = subst (λ (x : ℕ). a < count u x) m.level m.there in
     let aa : AddsParts s u l a = subst (λ (x : ℕ). AddsParts s u x a) m.level c.in_ok-callee.ensures.added in
     if_ok2 c.intern-2.result _ _ _ c.intern-2.ensures.level c.intern-2.ensures.interned (λ g e h.
     (let lev : g.level ≡ suc l = omega (arith, e, m.level) in
     subst (λ (x : ℕ). AddsParts old v x g.at) (sym lev)
-    (join_added old s u v l c.merge.new.table.tuples all bs classes a g.at c.in_ok-conns.ensures.good c.in_ok-callee.ensures.good c.in_ok-callee.ensures.extends c.intern-2.ensures.kept
-    (omega (arith, c.requires.level, c.law-2.ensures.eight)) (λ i li. (thin.each i (omega (arith, li, thin.long))).good.callee_exists) ca c.in_ok-conns.ensures.added aa canon
+    (join_added old s u v l c.merge.new.table.tuples all bs classes a g.at c.in_ok-thin_rows.ensures.good c.in_ok-callee.ensures.good c.in_ok-callee.ensures.extends c.intern-2.ensures.kept
+    (omega (arith, c.requires.level, c.law-2.ensures.eight)) (λ i li. (thin.each i (omega (arith, li, thin.long))).good.callee_exists) ca c.in_ok-thin_rows.ensures.added aa canon
     (subst (λ (x : ℕ). IsInterned u v x (node_with c.merge.new.table.tuples a bs) g.at) lev h))))
 
 pub merge-returns-then-is_rising-clause-merged : goal.merge-returns-then-is_rising-clause-merged
@@ -221,8 +229,8 @@ join-intern-requires t' c =
     let d = loose_node c.args.a.at c.args.rows.now c.args.labels.now in
     let all = c.as_slice-then-are_few_and_differ.result.now in
     let j : Joining t s s l d all all (numbers_from 0 (length all)) c.args.a.at =
-    joining_differing t s l d c.in_ok-conns.conns.items c.as_slice.result.now all c.as_slice.ensures c.as_slice-then-are_few_and_differ.ensures c.requires.good c.requires.loose
-    c.in_ok-conns.ensures.good c.in_ok-conns.ensures.extends c.in_ok-conns.ensures.thin c.law.ensures.differ (c.are_few_and_differ.ensures c.if-are_few_and_differ.true) in
+    joining_differing t s l d c.thin_rows.new.conns.items c.as_slice.result.now all c.as_slice.ensures c.as_slice-then-are_few_and_differ.ensures c.requires.good c.requires.loose
+    c.in_ok-thin_rows.ensures.good c.in_ok-thin_rows.ensures.extends c.in_ok-thin_rows.ensures.thin c.law.ensures.differ (c.are_few_and_differ.ensures c.if-are_few_and_differ.true) in
     internable t s s l d all all (numbers_from 0 (length all)) c.args.a j refl c.requires.level
 
 pub join-returns-then-are_few_and_differ-clause-joined : goal.join-returns-then-are_few_and_differ-clause-joined
@@ -233,8 +241,8 @@ join-returns-then-are_few_and_differ-clause-joined t' c =
     let d = loose_node c.args.a.at c.args.rows.now c.args.labels.now in
     let all = c.as_slice-then-are_few_and_differ.result.now in
     let j : Joining t s s l d all all (numbers_from 0 (length all)) c.args.a.at =
-    joining_differing t s l d c.in_ok-conns.conns.items c.as_slice.result.now all c.as_slice.ensures c.as_slice-then-are_few_and_differ.ensures c.requires.good c.requires.loose
-    c.in_ok-conns.ensures.good c.in_ok-conns.ensures.extends c.in_ok-conns.ensures.thin c.law.ensures.differ (c.are_few_and_differ.ensures c.if-are_few_and_differ.true) in
+    joining_differing t s l d c.thin_rows.new.conns.items c.as_slice.result.now all c.as_slice.ensures c.as_slice-then-are_few_and_differ.ensures c.requires.good c.requires.loose
+    c.in_ok-thin_rows.ensures.good c.in_ok-thin_rows.ensures.extends c.in_ok-thin_rows.ensures.thin c.law.ensures.differ (c.are_few_and_differ.ensures c.if-are_few_and_differ.true) in
     if_ok2 c.intern.result _ _ _ c.intern.ensures.level c.intern.ensures.interned
     (λ g e h. joined t s s c.intern.new.self l d all all (numbers_from 0 (length all)) c.args.a.at j c.intern.ensures.kept g (e ∙ add-one l) h)
 
@@ -246,12 +254,12 @@ join-returns-then-are_few_and_differ-clause-added t' c =
     let d = loose_node c.args.a.at c.args.rows.now c.args.labels.now in
     let all = c.as_slice-then-are_few_and_differ.result.now in
     let j : Joining t s s l d all all (numbers_from 0 (length all)) c.args.a.at =
-    joining_differing t s l d c.in_ok-conns.conns.items c.as_slice.result.now all c.as_slice.ensures c.as_slice-then-are_few_and_differ.ensures c.requires.good c.requires.loose
-    c.in_ok-conns.ensures.good c.in_ok-conns.ensures.extends c.in_ok-conns.ensures.thin c.law.ensures.differ (c.are_few_and_differ.ensures c.if-are_few_and_differ.true) in
+    joining_differing t s l d c.thin_rows.new.conns.items c.as_slice.result.now all c.as_slice.ensures c.as_slice-then-are_few_and_differ.ensures c.requires.good c.requires.loose
+    c.in_ok-thin_rows.ensures.good c.in_ok-thin_rows.ensures.extends c.in_ok-thin_rows.ensures.thin c.law.ensures.differ (c.are_few_and_differ.ensures c.if-are_few_and_differ.true) in
     let v = c.intern.new.self.levels in
-    let thin = c.in_ok-conns.ensures.thin in
-    let conns : c.in_ok-conns.conns.items ≡ all = sym c.as_slice-then-are_few_and_differ.ensures in
-    let parts : AddsPartsOf t.levels s.levels l all = subst (λ (w : List BConn). AddsPartsOf t.levels s.levels l w) conns c.in_ok-conns.ensures.added in
+    let thin = c.in_ok-thin_rows.ensures.thin in
+    let conns : c.thin_rows.new.conns.items ≡ all = sym c.as_slice-then-are_few_and_differ.ensures in
+    let parts : AddsPartsOf t.levels s.levels l all = subst (λ (w : List BConn). AddsPartsOf t.levels s.levels l w) conns c.in_ok-thin_rows.ensures.added in
     if_ok2 c.intern.result _ _ _ c.intern.ensures.level c.intern.ensures.interned (λ g e h.
     (let lev : g.level ≡ suc l = e ∙ add-one l in
     subst (λ (x : ℕ). AddsParts t.levels v x g.at) (sym lev)

@@ -1,4 +1,4 @@
-use Rattle.std.proofs.Common.{rules, ◌≡◌, ℕ, List, map, ap, sym, ◌∙◌, subst}
+use Rattle.std.proofs.Common.{rules, ◌≡◌, ℕ, map, ap, sym, ◌∙◌, subst}
 use Rattle.std.specs.List.{range_with_len, zip}
 use Rattle.cf_model.specs.Diagrams.{pattern}
 use Rattle.cf_table.specs.declared.Gid.{Gid}

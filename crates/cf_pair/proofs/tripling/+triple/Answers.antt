@@ -15,7 +15,6 @@ use Rattle.cf_pair.proofs.Triples.{TripleCall, call_range, assembly3}
 use Rattle.cf_model.specs.Diagrams.{Levels}
 use Rattle.std.proofs.lemmas.Result.{on_ok_weaker}
 use Rattle.cf_pair.proofs.Pushing.{gains_so, on_ok_always}
-use Rattle.cf_table.specs.declared.Gid.{Gid}
 use Rattle.cf_table.specs.Groupings.{Groupings}
 use Rattle.cf_table.specs.Triples.{IsTriple}
 use Rattle.cf_pair.specs.Products.{row_triples, GainsRow, IsAdded}
@@ -89,7 +88,7 @@ triple_rows-loop-i-preserved g t c =
 
 pub triple_rows-loop-i-init : goal.triple_rows-loop-i-init
 triple_rows-loop-i-init g t c =
-    let none = c.in_ok-rows.ensures in
+    let none = c.requires.none in
     record {
       listed = listed_none _ _ _ _ c.requires.good (ap (λ (s : Rowed (ℕ × ℕ × ℕ)). s.rows) none);
       ended = ap (λ (s : Rowed (ℕ × ℕ × ℕ)). s.begun) none;
@@ -134,16 +133,16 @@ triple_parts-assemble_rows-requires-clause-middles g t c =
     let new = c.triple_groupings.new.table.levels in
     let e = c.in_ok-callee.callee in
     let p = c.in_ok-callee.ensures.tripled in
-    c.in_ok-rows.ensures.rows.long ∙ ap length c.as_slice.ensures.value ∙ sym p.canon.reached
-    ∙ (level_holds new c.in_ok-callee.ensures.good e.level).reaches e.at p.there ∙ sym (exits_kept new c.triple_rows.new.table.levels c.in_ok-rows.ensures.extends e.level e.at p.there)
+    c.in_ok-triple_rows.ensures.rows.long ∙ ap length c.as_slice.ensures.value ∙ sym p.canon.reached
+    ∙ (level_holds new c.in_ok-callee.ensures.good e.level).reaches e.at p.there ∙ sym (exits_kept new c.triple_rows.new.table.levels c.in_ok-triple_rows.ensures.extends e.level e.at p.there)
 
 pub triple_parts-assemble_rows-requires-clause-rows : goal.triple_parts-assemble_rows-requires-clause-rows
 triple_parts-assemble_rows-requires-clause-rows g t c k d lk =
     let v = c.triple_rows.new.table.levels in
-    let w = c.in_ok-rows.ensures.rows in
+    let w = c.in_ok-triple_rows.ensures.rows in
     let r = (w.each k d (omega (arith, lk, w.long))).is_row in
     let lev : c.args.f.level - 1 ≡ c.in_ok-callee.callee.level = omega (arith, c.in_ok-callee.ensures.tripled.level, c.a_of-a.ensures.level) in
-    subst (λ (l : ℕ). IsRow v l (get_or c.in_ok-rows.rows.rows k d)) lev r
+    subst (λ (l : ℕ). IsRow v l (get_or c.triple_rows.new.rows.rows k d)) lev r
 
 pub triple_parts-returns-clause-tripled : goal.triple_parts-returns-clause-tripled
 triple_parts-returns-clause-tripled g t c =
@@ -170,12 +169,12 @@ triple_parts-returns-clause-tripled g t c =
       canon = subst (λ (v : List (ℕ × ℕ × ℕ)). HasCanon new e c.a_of-a.result.level (zip3 (pattern old c.a_of-a.result.level c.a_of-a.result.at) (pattern old c.a_of-b.result.level c.a_of-b.result.at) (pattern old c.a_of-c.result.level c.a_of-c.result.at)) v) (sym c.as_slice.ensures.value) c.in_ok-callee.ensures.tripled;
     } in
     let v = c.triple_rows.new.table.levels in
-    let rows = c.in_ok-rows.rows.rows in
+    let rows = c.triple_rows.new.rows.rows in
     let l = c.args.f.level - 1 in
-    let listed : ListEach v l (λ i. triple_word (pattern new l) (node new c.args.f.level c.args.f.at).connections (node new c.args.g.level c.args.g.at).connections (node new c.args.h.level c.args.h.at).connections (get_or ms i (0, 0, 0))) (length ms) rows = c.in_ok-rows.ensures.rows in
-    let added : AddsOnlyIn new v l rows = c.in_ok-rows.ensures.added in
+    let listed : ListEach v l (λ i. triple_word (pattern new l) (node new c.args.f.level c.args.f.at).connections (node new c.args.g.level c.args.g.at).connections (node new c.args.h.level c.args.h.at).connections (get_or ms i (0, 0, 0))) (length ms) rows = c.in_ok-triple_rows.ensures.rows in
+    let added : AddsOnlyIn new v l rows = c.in_ok-triple_rows.ensures.added in
     if_ok2 c.assemble_rows.result _ _ _ c.assemble_rows.ensures.assembled c.assemble_rows.ensures.added
-    (λ r s x. (assembly3 old new v c.assemble_rows.new.table.levels c.args.f c.args.g c.args.h c.a_of-a.result c.a_of-b.result c.a_of-c.result e ms rows r.0 r.1.items w c.in_ok-rows.ensures.good c.in_ok-rows.ensures.extends listed c.assemble_rows.ensures.good c.assemble_rows.ensures.kept s c.in_ok-callee.ensures.added added x).0)
+    (λ r s x. (assembly3 old new v c.assemble_rows.new.table.levels c.args.f c.args.g c.args.h c.a_of-a.result c.a_of-b.result c.a_of-c.result e ms rows r.0 r.1.items w c.in_ok-triple_rows.ensures.good c.in_ok-triple_rows.ensures.extends listed c.assemble_rows.ensures.good c.assemble_rows.ensures.kept s c.in_ok-callee.ensures.added added x).0)
 
 pub triple_parts-returns-clause-added : goal.triple_parts-returns-clause-added
 triple_parts-returns-clause-added g t c =
@@ -202,12 +201,12 @@ triple_parts-returns-clause-added g t c =
       canon = subst (λ (v : List (ℕ × ℕ × ℕ)). HasCanon new e c.a_of-a.result.level (zip3 (pattern old c.a_of-a.result.level c.a_of-a.result.at) (pattern old c.a_of-b.result.level c.a_of-b.result.at) (pattern old c.a_of-c.result.level c.a_of-c.result.at)) v) (sym c.as_slice.ensures.value) c.in_ok-callee.ensures.tripled;
     } in
     let v = c.triple_rows.new.table.levels in
-    let rows = c.in_ok-rows.rows.rows in
+    let rows = c.triple_rows.new.rows.rows in
     let l = c.args.f.level - 1 in
-    let listed : ListEach v l (λ i. triple_word (pattern new l) (node new c.args.f.level c.args.f.at).connections (node new c.args.g.level c.args.g.at).connections (node new c.args.h.level c.args.h.at).connections (get_or ms i (0, 0, 0))) (length ms) rows = c.in_ok-rows.ensures.rows in
-    let added : AddsOnlyIn new v l rows = c.in_ok-rows.ensures.added in
+    let listed : ListEach v l (λ i. triple_word (pattern new l) (node new c.args.f.level c.args.f.at).connections (node new c.args.g.level c.args.g.at).connections (node new c.args.h.level c.args.h.at).connections (get_or ms i (0, 0, 0))) (length ms) rows = c.in_ok-triple_rows.ensures.rows in
+    let added : AddsOnlyIn new v l rows = c.in_ok-triple_rows.ensures.added in
     if_ok2 c.assemble_rows.result _ _ _ c.assemble_rows.ensures.assembled c.assemble_rows.ensures.added
-    (λ r s x. (assembly3 old new v c.assemble_rows.new.table.levels c.args.f c.args.g c.args.h c.a_of-a.result c.a_of-b.result c.a_of-c.result e ms rows r.0 r.1.items w c.in_ok-rows.ensures.good c.in_ok-rows.ensures.extends listed c.assemble_rows.ensures.good c.assemble_rows.ensures.kept s c.in_ok-callee.ensures.added added x).1)
+    (λ r s x. (assembly3 old new v c.assemble_rows.new.table.levels c.args.f c.args.g c.args.h c.a_of-a.result c.a_of-b.result c.a_of-c.result e ms rows r.0 r.1.items w c.in_ok-triple_rows.ensures.good c.in_ok-triple_rows.ensures.extends listed c.assemble_rows.ensures.good c.assemble_rows.ensures.kept s c.in_ok-callee.ensures.added added x).1)
 
 pub triple_groupings-keep_triple-requires : goal.triple_groupings-keep_triple-requires
 triple_groupings-keep_triple-requires g t c =

@@ -1,5 +1,5 @@
-use Rattle.std.proofs.Common.{◌≡◌, List, [], ◌∷◌, ◌++◌, sym, ◌∙◌, ap, subst}
-use Rattle.std.proofs.lemmas.List.{map_push}
+use Rattle.std.proofs.Common.{◌≡◌, List, [], ◌∷◌, ◌++◌, length, sym, ◌∙◌, ap, subst}
+use Rattle.std.proofs.lemmas.List.{map_push, length-map}
 use Rattle.cf_model.specs.Renumbering.{IsNew}
 use Rattle.cf_model.specs.Diagrams.{Levels}
 use Rattle.indexmap.proofs.CallerLemmas.{insert_entry-new}
@@ -38,3 +38,7 @@ returns-clause-kept c =
     ap (λ (es : List (Operands × Product)). shown_products (levels c) es) (entries c)
     ∙ map_push (λ (e : Operands × Product). patterns_of (levels c) e.0.left e.0.right) c.self.inside.products.entries (key c.args.g c.args.h, value c)
     ∙ ap (λ (t : Groupings). t.products ++ patterns_of t.levels c.args.g c.args.h ∷ []) c.self.view_is
+
+pub returns-clause-place : goal.returns-clause-place
+returns-clause-place c =
+    c.len-place.ensures.len ∙ sym (length-map c.self.inside.products.entries (λ (e : Operands × Product). patterns_of (levels c) e.0.left e.0.right)) ∙ ap (λ (t : Groupings). length t.products) c.self.view_is

@@ -1,4 +1,4 @@
-use Rattle.cf_build.proofs.Rowing.{label_more, places_more}
+use Rattle.cf_build.proofs.Rowing.{label_more}
 use Rattle.cf_build.proofs.rows.Rows.push_label.Goals as goal
 
 pub returns-clause-pushed : goal.returns-clause-pushed

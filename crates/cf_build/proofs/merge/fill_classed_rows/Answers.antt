@@ -4,7 +4,7 @@ use Rattle.cf_table.specs.Groupings.{node_of}
 use Rattle.cf_build.specs.Assembling.{classed}
 use Rattle.cf_build.specs.Joining.{returning, classed_connection}
 use Rattle.cf_build.proofs.Loops.{within, rows_more, all_more}
-use Rattle.cf_build.proofs.merge.classed_rows.Goals as goal
+use Rattle.cf_build.proofs.merge.fill_classed_rows.Goals as goal
 
 pub append_classes-requires : goal.append_classes-requires
 append_classes-requires c = record {
