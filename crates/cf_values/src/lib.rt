@@ -13,7 +13,7 @@ use std::marker::Model;
 pub type NoMemory = AllocError;
 
 /// The id of a list of values in a book.
-#[derive(Clone, Copy, Debug, PartialEq, Eq)]
+#[derive(Clone, Copy, Debug, PartialEq, Eq, Hash)]
 pub struct Vid {
     pub at: u64,
 }
