@@ -4,6 +4,7 @@ use Rattle.cf_reference.specs.Lines.{Line, line_end, lines, size, fit, LineTooLo
 use Rattle.cf_reference.proofs.LineLaws.{lines_newline, lines_last, lines_nil, lines_front, front_long, front_over, is_long, is_over}
 use Rattle.cf_io.specs.Held.{Held}
 use Rattle.cf_io.specs.LineSteps.{Splits, Takes, HandsOut, IsFirst, BeginsTooLong}
+use Rattle.cf_io.specs.Shown.{SourceView}
 use Rattle.cf_io.specs.Windows.{Comes, held, state, between, answer_in, Hands}
 use Rattle.cf_io.specs.declared.lines.Window.{Window}
 use Rattle.cf_io.specs.declared.lines.Found.{Found}
@@ -32,9 +33,9 @@ splits_of w w2 line left old found.ScriptTooLong t cut e = ap (λ (h : Held). h.
 splits_of w w2 line left old found.ReadFault t cut e = absurd t
 
 -- the bytes that were taken, where a line is handed out or too long
-pub takes_of : (from : Held) (w w2 : Window) (line : Line) (l0 l1 r0 r1 : List ℕ) (r : Found) → Hands w w2 line r → Cuts (held w) line
-    → Comes from.bytes (held w) l0 l1 r0 r1 → Takes from (state w2) l0 l1 r0 r1 (answer_in w2.buf.items r)
-takes_of from w w2 line l0 l1 r0 r1 r h cut c = record {
+pub takes_of : (from : Held) (w w2 : Window) (line : Line) (before after : SourceView) (r : Found) → Hands w w2 line r → Cuts (held w) line
+    → Comes from.bytes (held w) before after → Takes from (state w2) before after (answer_in w2.buf.items r)
+takes_of from w w2 line before after r h cut c = record {
   fresh = c.fresh;
   read = c.read;
   left = c.left;

@@ -1,4 +1,6 @@
+pub mod CountLaws
 pub mod FileLemmas
+pub mod ToComeLaws
 pub mod WindowLemmas
 pub mod HandLemmas
 pub mod FindLemmas

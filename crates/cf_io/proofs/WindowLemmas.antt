@@ -3,6 +3,7 @@ use Rattle.std.proofs.Math.Seq.{take-add}
 use Rattle.std.proofs.lemmas.List.{drop-drop, drop-take, length-take, take-take, take_at}
 use Rattle.cf_reference.specs.Lines.{NoNewline}
 use Rattle.cf_reference.proofs.LineLaws.{plain_append}
+use Rattle.cf_io.specs.Shown.{SourceView}
 use Rattle.cf_io.specs.Windows.{between, Comes}
 
 -- bytes are free of newlines where each of their places is
@@ -94,21 +95,21 @@ copied at n bytes piece rest h e =
     take-add at n bytes ∙ ap (λ w. take at bytes ++ w) (sym is ∙ sym (take_at piece rest n len))
 
 -- nothing came, and more came
-pub comes_none : (held left read : List ℕ) → Comes held held left left read read
-comes_none held left read = record { fresh = []; read = sym (append-nil read); left = refl; held = sym (append-nil held) }
+pub comes_none : (held : List ℕ) (s : SourceView) → Comes held held s s
+comes_none held s = record { fresh = []; read = sym (append-nil s.read); left = refl; held = sym (append-nil held) }
 
-pub comes_more : (h0 h1 h2 l0 l1 l2 r0 r1 r2 : List ℕ) → Comes h0 h1 l0 l1 r0 r1 → Comes h1 h2 l1 l2 r1 r2 → Comes h0 h2 l0 l2 r0 r2
-comes_more h0 h1 h2 l0 l1 l2 r0 r1 r2 a b = record {
+pub comes_more : (h0 h1 h2 : List ℕ) (s0 s1 s2 : SourceView) → Comes h0 h1 s0 s1 → Comes h1 h2 s1 s2 → Comes h0 h2 s0 s2
+comes_more h0 h1 h2 s0 s1 s2 a b = record {
   fresh = a.fresh ++ b.fresh;
-  read = b.read ∙ ap (λ r. r ++ b.fresh) a.read ∙ append_assoc r0 a.fresh b.fresh;
-  left = a.left ∙ ap (λ l. a.fresh ++ l) b.left ∙ sym (append_assoc a.fresh b.fresh l2);
+  read = b.read ∙ ap (λ r. r ++ b.fresh) a.read ∙ append_assoc s0.read a.fresh b.fresh;
+  left = a.left ∙ ap (λ l. a.fresh ++ l) b.left ∙ sym (append_assoc a.fresh b.fresh s2.left);
   held = b.held ∙ ap (λ h. h ++ b.fresh) a.held ∙ append_assoc h0 a.fresh b.fresh;
 }
 
-pub comes_behind : (from upto n upto2 : ℕ) (items new mid held left left2 read read2 : List ℕ) → items ≡ new → from ≤ upto → upto2 ≡ upto + n
-    → take upto new ≡ take upto mid → between from upto mid ≡ held → left ≡ take n (drop upto new) ++ left2 → read2 ≡ read ++ take n (drop upto new)
-    → Comes held (between from upto2 items) left left2 read read2
-comes_behind from upto n upto2 items new mid held left left2 read read2 e h u k b l r = record {
+pub comes_behind : (from upto n upto2 : ℕ) (items new mid held : List ℕ) (before after : SourceView) → items ≡ new → from ≤ upto → upto2 ≡ upto + n
+    → take upto new ≡ take upto mid → between from upto mid ≡ held → before.left ≡ take n (drop upto new) ++ after.left
+    → after.read ≡ before.read ++ take n (drop upto new) → Comes held (between from upto2 items) before after
+comes_behind from upto n upto2 items new mid held before after e h u k b l r = record {
   fresh = take n (drop upto new);
   read = r;
   left = l;

@@ -1,4 +1,5 @@
 pub mod Causes
+pub mod Shown
 pub mod Reading
 pub mod Putting
 pub mod Opening
@@ -9,3 +10,4 @@ pub mod Answers
 pub mod LineSteps
 pub mod Windows
 pub mod Memory
+pub mod Adapters

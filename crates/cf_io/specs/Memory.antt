@@ -1,10 +1,11 @@
-use Rattle.std.specs.Prelude.{ℕ, ◌+◌, ◌-◌, ◌++◌, nat_le, min, List, length, take, if◌then◌else◌, is_some}
+use Rattle.std.specs.Prelude.{ℕ, ◌≡◌, ◌+◌, ◌-◌, ◌++◌, nat_le, min, true, false, List, [], length, take, drop, if◌then◌else◌, is_some}
 use Rattle.cf_io.specs.Causes.{one_more}
-use Rattle.cf_io.specs.Contents.{content_or_nothing, entries_of}
+use Rattle.cf_io.specs.Contents.{content_or_nothing, entries_of, name_or_nothing}
 use Rattle.cf_io.specs.Opening.{content_of}
 use Rattle.cf_io.specs.Pieces.{is_listed, piece_length}
 use Rattle.cf_io.specs.Putting.{took}
 use Rattle.cf_io.specs.Reading.{count_of}
+use Rattle.cf_io.specs.Shown.{FilesView, FilesAreTold, SinkView, SourceView}
 use Rattle.cf_io.specs.declared.files.Opened.{Opened}
 use Rattle.cf_io.specs.declared.files.Opened.TheVariants as opened
 use Rattle.cf_io.specs.declared.mem_files.MemFiles.{MemFiles}
@@ -14,6 +15,39 @@ use Rattle.cf_io.specs.declared.sink.Put.{Put}
 use Rattle.cf_io.specs.declared.sink.Put.TheVariants as put
 use Rattle.cf_io.specs.declared.source.Got.{Got}
 use Rattle.cf_io.specs.declared.source.Got.TheVariants as got
+
+-- what a source in memory shows
+abbrev pub source_view : MemSource → SourceView
+source_view s = record {
+  tells = true;
+  left = drop s.at s.bytes.items;
+  read = take s.at s.bytes.items;
+  taken = s.at;
+  ended = s.ended;
+  faults = s.calls.faults;
+}
+
+-- what files in memory show
+abbrev pub files_view : MemFiles → FilesView
+files_view s = record {
+  tells = true;
+  entries = entries_of s.files.items;
+  name = name_or_nothing s.files.items s.place;
+  left = drop s.at (content_or_nothing s.files.items s.place);
+  opened = s.opened;
+  given = s.at;
+  ended = s.ended;
+  misses = s.misses;
+  faults = s.calls.faults;
+}
+
+-- what a sink in memory shows
+abbrev pub sink_view : MemSink → SinkView
+sink_view s = record {
+  tells = true;
+  written = take s.used s.room.items;
+  faults = s.calls.faults;
+}
 
 -- bytes in memory: where their reads end, the numbers of the calls that fail, and how many bytes and calls were taken
 pub record Reader : Type 0 where
@@ -26,7 +60,36 @@ pub record Reader : Type 0 where
 
 -- the reader that a source in memory is
 abbrev pub reader : MemSource → Reader
-reader s = record { bytes = s.bytes.items; piece = s.piece; cut = s.cut; fails = s.calls.fails.items; at = s.at; calls = s.calls.made }
+reader s = record {
+  bytes = s.bytes.items;
+  piece = s.piece;
+  cut = s.cut;
+  fails = s.calls.fails.items;
+  at = s.at;
+  calls = s.calls.made;
+}
+
+-- a reader that has read nothing
+abbrev pub new_reader : List ℕ → ℕ → ℕ → List ℕ → Reader
+new_reader bytes piece cut fails = record {
+  bytes = bytes;
+  piece = piece;
+  cut = cut;
+  fails = fails;
+  at = 0;
+  calls = 0;
+}
+
+-- what a source in memory shows from which nothing was read
+abbrev pub unread_view : List ℕ → SourceView
+unread_view bytes = record {
+  tells = true;
+  left = bytes;
+  read = [];
+  taken = 0;
+  ended = false;
+  faults = 0;
+}
 
 -- what a read into a buffer of `room` bytes answers
 abbrev pub read_answer : Reader → ℕ → Got
@@ -49,7 +112,27 @@ pub record Writer : Type 0 where
 
 -- the writer that a sink in memory is
 abbrev pub writer : MemSink → Writer
-writer s = record { written = take s.used s.room.items; room = length s.room.items; piece = s.piece; fails = s.calls.fails.items; calls = s.calls.made }
+writer s = record {
+  written = take s.used s.room.items;
+  room = length s.room.items;
+  piece = s.piece;
+  fails = s.calls.fails.items;
+  calls = s.calls.made;
+}
+
+-- a writer that has written nothing
+abbrev pub new_writer : ℕ → ℕ → List ℕ → Writer
+new_writer room piece fails = record {
+  written = [];
+  room = room;
+  piece = piece;
+  fails = fails;
+  calls = 0;
+}
+
+-- what a sink in memory shows into which nothing was written
+abbrev pub unwritten_view : SinkView
+unwritten_view = record { tells = true; written = []; faults = 0 }
 
 -- what a write of `count` bytes answers
 abbrev pub write_answer : Writer → ℕ → Put
@@ -60,7 +143,10 @@ write_answer w count =
 
 -- the writer after a write of these bytes that answered so
 abbrev pub after_write : Writer → List ℕ → Put → Writer
-after_write w bytes answer = record w { written = w.written ++ take (took answer) bytes; calls = one_more w.calls }
+after_write w bytes answer = record w {
+  written = w.written ++ take (took answer) bytes;
+  calls = one_more w.calls;
+}
 
 -- files in memory: how their reads end, the numbers of the calls that fail, and how many calls were made
 pub record Shelf : Type 0 where
@@ -71,7 +157,24 @@ pub record Shelf : Type 0 where
 
 -- the shelf that files in memory are
 abbrev pub shelf : MemFiles → Shelf
-shelf s = record { entries = entries_of s.files.items; piece = s.piece; fails = s.calls.fails.items; calls = s.calls.made }
+shelf s = record {
+  entries = entries_of s.files.items;
+  piece = s.piece;
+  fails = s.calls.fails.items;
+  calls = s.calls.made;
+}
+
+-- a shelf from which nothing was taken
+abbrev pub new_shelf : List (List ℕ × List ℕ) → ℕ → List ℕ → Shelf
+new_shelf entries piece fails = record { entries = entries; piece = piece; fails = fails; calls = 0 }
+
+-- no file was asked for
+pub record IsUnread (view : FilesView) (files : List (List ℕ × List ℕ)) : Type 0 where
+  pub told : FilesAreTold view
+  pub entries : view.entries ≡ files
+  pub opened : view.opened ≡ false
+  pub misses : view.misses ≡ 0
+  pub faults : view.faults ≡ 0
 
 -- what opening a file of this name answers
 abbrev pub open_answer : Shelf → List ℕ → Opened
@@ -86,4 +189,11 @@ after_call s = record s { calls = one_more s.calls }
 
 -- the reader that the open file is
 abbrev pub file_reader : MemFiles → Reader
-file_reader s = record { bytes = content_or_nothing s.files.items s.place; piece = s.piece; cut = 0; fails = s.calls.fails.items; at = s.at; calls = s.calls.made }
+file_reader s = record {
+  bytes = content_or_nothing s.files.items s.place;
+  piece = s.piece;
+  cut = 0;
+  fails = s.calls.fails.items;
+  at = s.at;
+  calls = s.calls.made;
+}

@@ -1,9 +1,10 @@
-use Rattle.std.specs.Prelude.{ℕ, ◌≡◌, ◌+◌, ◌≤◌, ◌-◌, ◌++◌, List, take, drop, length}
+use Rattle.std.specs.Prelude.{ℕ, ◌≡◌, ◌+◌, ◌≤◌, ◌-◌, ◌++◌, Bool, List, take, drop, length}
 use Rattle.cf_reference.specs.Lines as lines
 use Rattle.cf_reference.specs.Lines.{Line, fit, line_end, size}
 use Rattle.cf_io.specs.Held.{Held}
 use Rattle.cf_io.specs.Answers.{Answer}
 use Rattle.cf_io.specs.Answers as answer
+use Rattle.cf_io.specs.Shown.{SourceView}
 use Rattle.cf_io.specs.declared.lines.Window.{Window}
 use Rattle.cf_io.specs.declared.lines.Found.{Found}
 use Rattle.cf_io.specs.declared.lines.Found.TheVariants as found
@@ -26,10 +27,10 @@ pub record IsSound (w : Window) : Type 0 where
   pub handed : w.handed ≤ 1073741824
 
 -- the bytes that were taken from the source stand behind those that were held
-pub record Comes (held_old held_new left_old left_new read_old read_new : List ℕ) : Type 0 where
+pub record Comes (held_old held_new : List ℕ) (before after : SourceView) : Type 0 where
   pub fresh : List ℕ
-  pub read : read_new ≡ read_old ++ fresh
-  pub left : left_old ≡ fresh ++ left_new
+  pub read : after.read ≡ before.read ++ fresh
+  pub left : before.left ≡ fresh ++ after.left
   pub held : held_new ≡ held_old ++ fresh
 
 -- the bytes between two places of a buffer
@@ -44,6 +45,10 @@ answer_in buf found.TooLong = answer.TooLong
 answer_in buf found.ScriptTooLong = answer.ScriptTooLong
 answer_in buf found.ReadFault = answer.ReadFault
 
+-- what was found in a window
+abbrev pub found_in : Window → Found → Answer
+found_in w found = answer_in w.buf.items found
+
 -- the line lies in the buffer
 abbrev pub LiesIn : Window → Found → Type 0
 LiesIn w (found.Line a b) = (a ≤ b) × (b ≤ length w.buf.items)
@@ -57,6 +62,15 @@ abbrev pub fit_of : Fit → lines.Fit
 fit_of length_of.Fits = lines.Fits
 fit_of length_of.LineTooLong = lines.LineTooLong
 fit_of length_of.ScriptTooLong = lines.ScriptTooLong
+
+-- how a line of this length fares, whatever its bytes
+abbrev pub Fares : ℕ → ℕ → Bool → Fit → Type 0
+Fares handed len newline found =
+    (bytes : List ℕ) → length bytes ≡ len → fit handed (record { bytes = bytes; newline = newline }) ≡ fit_of found
+
+-- the first `len` bytes that are held, as a line
+abbrev pub front_line : Window → ℕ → Bool → Line
+front_line w len newline = record { bytes = take len (held w); newline = newline }
 
 -- a line and what is held after it
 pub record TakesOff (old new : Window) (line : Line) (given : List ℕ) : Type 0 where

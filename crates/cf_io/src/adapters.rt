@@ -1,4 +1,9 @@
-ghost use Rattle.std.specs.Prelude.{◌≡◌, ℕ, false, List, []};
+//! Sources and sinks over readers and writers of std.
+
+ghost use Rattle.std.specs.Prelude.{◌≡◌, ℕ, ◌<◌, length};
+ghost use Rattle.cf_io.specs.Adapters.{HandsOn, HandsOver, reader_left, reader_view, unread_reader_view, writer_has, writer_view};
+ghost use Rattle.cf_io.specs.Putting.{TookWithin, Writes};
+ghost use Rattle.cf_io.specs.Reading.{GotWithin, Reads};
 
 use crate::sink::{Put, Sink};
 use crate::source::{Got, Source};
@@ -16,9 +21,8 @@ pub struct HostSource<R: Read> {
 impl<R: Read> HostSource<R> {
     /// A source over a reader from which nothing was taken.
     pub fn new(reader: R) -> HostSource<R>
-        ensures taken { ⟦<HostSource<R> as Source>⟧.taken result ≡ 0 }
-        ensures ended { ⟦<HostSource<R> as Source>⟧.ended result ≡ false }
-        ensures faults { ⟦<HostSource<R> as Source>⟧.faults result ≡ 0 }
+        ensures reader { reader_left R.remaining result ≡ R.remaining reader }
+        ensures shown { reader_view result ≡ unread_reader_view }
     {
         HostSource {
             reader,
@@ -30,35 +34,31 @@ impl<R: Read> HostSource<R> {
 }
 
 impl<R: Read> Source for HostSource<R> {
-    ghost tells = { λ _. false };
+    ghost shown = { reader_view };
 
-    ghost left = { λ _. [] };
-
-    ghost read_bytes = { λ _. [] };
-
-    ghost taken = { λ s. s.taken };
-
-    ghost ended = { λ s. s.ended };
-
-    ghost faults = { λ s. s.faults };
-
-    fn read(&mut self, buf: &mut [u8]) -> Got {
+    fn read(&mut self, buf: &mut [u8]) -> Got
+        requires { 0 < length buf.old }
+        ensures bound { GotWithin result (length buf.new) }
+        ensures reads { Reads (reader_view self.old) (reader_view self.new) result buf.new }
+        ensures hands_on { HandsOn (reader_left R.remaining self.old)
+            (reader_left R.remaining self.new) result buf.new }
+    {
         self.ended = false;
         let room = buf.len() as u64;
         if u64::MAX - self.taken < room {
             self.faults = self.faults.saturating_add(1);
             return Got::Failed;
         }
-        match self.reader.read(buf) {
-            Ok(0) => {
-                self.ended = true;
-                Got::End
-            }
-            Ok(count) => {
+        match read_some(&mut self.reader, buf) {
+            Got::Got(count) => {
                 self.taken += count as u64;
                 Got::Got(count)
             }
-            Err(_) => {
+            Got::End => {
+                self.ended = true;
+                Got::End
+            }
+            Got::Failed => {
                 self.faults = self.faults.saturating_add(1);
                 Got::Failed
             }
@@ -66,7 +66,21 @@ impl<R: Read> Source for HostSource<R> {
     }
 }
 
-/// A writer of the system, whose failures are counted. It is flushed after each piece, and tells no bytes.
+/// Reads once, and tells an end from a failure.
+fn read_some<R: Read>(reader: &mut R, buf: &mut [u8]) -> Got
+    requires { 0 < length buf.old }
+    ensures bound { GotWithin result (length buf.new) }
+    ensures hands_on { HandsOn (R.remaining reader.old) (R.remaining reader.new) result buf.new }
+{
+    match reader.read(buf) {
+        Ok(0) => Got::End,
+        Ok(count) => Got::Got(count),
+        Err(_) => Got::Failed,
+    }
+}
+
+/// A writer of the system, whose failures are counted. It is flushed after each piece, and tells
+/// no bytes.
 #[derive(Drop)]
 pub struct HostSink<W: Write> {
     writer: W,
@@ -76,32 +90,45 @@ pub struct HostSink<W: Write> {
 impl<W: Write> HostSink<W> {
     /// A sink over a writer.
     pub fn new(writer: W) -> HostSink<W>
-        ensures faults { ⟦<HostSink<W> as Sink>⟧.faults result ≡ 0 }
+        ensures writer { writer_has W.contents result ≡ W.contents writer }
+        ensures faults { (writer_view result).faults ≡ 0 }
     {
         HostSink { writer, faults: 0 }
     }
 }
 
 impl<W: Write> Sink for HostSink<W> {
-    ghost tells = { λ _. false };
+    ghost shown = { writer_view };
 
-    ghost written = { λ _. [] };
-
-    ghost faults = { λ s. s.faults };
-
-    fn write(&mut self, piece: &[u8]) -> Put {
-        match self.writer.write(piece) {
-            Ok(count) if count > 0 => match self.writer.flush() {
-                Ok(()) => Put::Took(count),
-                Err(_) => {
-                    self.faults = self.faults.saturating_add(1);
-                    Put::Failed
-                }
-            },
-            _ => {
+    fn write(&mut self, piece: &[u8]) -> Put
+        requires { 0 < length piece.now }
+        ensures bound { TookWithin result (length piece.now) }
+        ensures writes { Writes (writer_view self.old) (writer_view self.new) result piece.now }
+        ensures hands_over { HandsOver (writer_has W.contents self.old)
+            (writer_has W.contents self.new) result piece.now }
+    {
+        match write_some(&mut self.writer, piece) {
+            Put::Took(count) => Put::Took(count),
+            Put::Failed => {
                 self.faults = self.faults.saturating_add(1);
                 Put::Failed
             }
         }
+    }
+}
+
+/// Writes once, and flushes what the writer took. A writer that takes nothing has failed.
+fn write_some<W: Write>(writer: &mut W, piece: &[u8]) -> Put
+    ensures bound { TookWithin result (length piece.now) }
+    ensures hands_over { HandsOver (W.contents writer.old) (W.contents writer.new)
+        result piece.now }
+{
+    match writer.write(piece) {
+        Ok(0) => Put::Failed,
+        Ok(count) => match writer.flush() {
+            Ok(()) => Put::Took(count),
+            Err(_) => Put::Failed,
+        },
+        Err(_) => Put::Failed,
     }
 }

@@ -1,5 +1,7 @@
-ghost use Rattle.std.specs.Prelude.{◌≡◌, ℕ, ◌+◌, ◌<◌, ◌≤◌, List, [], ◌++◌, length, take, drop, if◌then◌else◌};
-ghost use Rattle.cf_io.specs.Causes.{HasCause, one_more};
+//! The calls of a form in memory.
+
+ghost use Rattle.std.specs.Prelude.{◌≡◌, ℕ, ◌+◌, ◌<◌, ◌≤◌, List, [], ◌++◌, length, take, drop};
+ghost use Rattle.cf_io.specs.Causes.{Counts, HasCause, one_more};
 ghost use Rattle.cf_io.specs.Pieces.{is_listed, piece_length};
 
 /// The calls of a form in memory: those that fail, how many were made, and how many of them failed.
@@ -27,7 +29,7 @@ impl Calls {
     pub(crate) fn fails_now(&mut self) -> bool
         ensures listed { result ≡ is_listed self.old.fails.items self.old.made }
         ensures made { self.new.made ≡ one_more self.old.made }
-        ensures faults { self.new.faults ≡ (if result then one_more self.old.faults else self.old.faults) }
+        ensures counted { Counts self.old.faults self.new.faults result }
         ensures cause { HasCause self.old.faults self.new.faults result }
         ensures fails { self.new.fails.items ≡ self.old.fails.items }
     {

@@ -1,4 +1,4 @@
-// Sources, files, sinks and lines, each with a written meaning.
+//! Sources, files, sinks and lines, each with a written meaning.
 #![tactic(auto)]
 
 mod adapters;

@@ -1,12 +1,15 @@
+//! The lines of a source.
+
 ghost use Rattle.std.specs.Prelude.{◌≡◌, ℕ, ◌+◌, ◌-◌, ◌<◌, ◌≤◌, Bool, true, false, List, [], ◌++◌, length, take, drop, slice_index, IsTrue, IfOk, IfSome, IfNone};
 ghost use Rattle.std.specs.Borrow.{sem};
 ghost use Rattle.std.specs.Io.BufRead.{Rests};
 ghost use Rattle.cf_reference.specs.Lines.{fit, line_end, NoNewline};
-ghost use Rattle.cf_io.specs.Causes.{HasCause, Rose};
+ghost use Rattle.cf_io.specs.Causes.{HasCause};
 ghost use Rattle.cf_io.specs.Held.{Held};
-ghost use Rattle.cf_io.specs.LineSteps.{Advances, answer_of, HandsOut, IsReadFault, Splits, Takes};
-ghost use Rattle.cf_io.specs.Reading.{count_of, GotWithin, is_end, is_failed};
-ghost use Rattle.cf_io.specs.Windows.{answer_in, Comes, fit_of, Hands, held, IsSound, LiesIn, state};
+ghost use Rattle.cf_io.specs.LineSteps.{Advances, answer_of, EndIsLast, EndIsTrue, HandsOut, IsReadFault, LastFailed, Steps, Takes, to_come};
+ghost use Rattle.cf_io.specs.Reading.{count_of, GotWithin, is_end, is_failed, Reads};
+ghost use Rattle.cf_io.specs.Shown.{ReadingIsTold};
+ghost use Rattle.cf_io.specs.Windows.{Comes, Fares, found_in, front_line, Hands, held, IsSound, LiesIn, state};
 ghost use Rattle.cf_io.specs.contracts.lines.Lines.{the_row};
 
 use crate::NoMemory;
@@ -24,8 +27,8 @@ const LONGEST_SCRIPT: u64 = 1_073_741_824;
 /// The bytes of the buffer: four longest lines with their line ends.
 const BUFFER: usize = 262_148;
 
-/// What a read of a line gave: the line without its line end, the end of input, a line or a script that is too long, or a
-/// failure of the source.
+/// What a read of a line gave: the line without its line end, the end of input, a line or a script
+/// that is too long, or a failure of the source.
 #[derive(Clone, Copy, Debug)]
 pub enum Next<'a> {
     Line(&'a [u8]),
@@ -51,7 +54,8 @@ enum Fit {
     ScriptTooLong,
 }
 
-/// A buffer of which the bytes from `from` up to `upto` are held, behind `handed` bytes of the script.
+/// A buffer of which the bytes from `from` up to `upto` are held, behind `handed` bytes of the
+/// script.
 #[derive(Drop)]
 struct Window {
     buf: Vec<u8>,
@@ -95,21 +99,16 @@ impl Lines {
         })
     }
 
-    /// The next line of the source. A line ends at a newline or, if it has bytes, at the end of input.
+    /// The next line of the source. A line ends at a newline or, if it has bytes, at the end of
+    /// input.
     pub fn next_line<S: Source>(&mut self, source: &mut S) -> Next<'_>
         ensures* after { sem 𝓛 (Rests the_row self.entry (λ new.
-            Advances self.old new (S.taken source.old) (S.taken source.new) (answer_of result)
-            × ((IsTrue self.old.ended → IsTrue (S.ended source.old)) → IsTrue new.ended → IsTrue (S.ended source.new))
-            × (IsTrue (S.tells source.old) → Splits (self.old.bytes ++ S.left source.old) (new.bytes ++ S.left source.new) (answer_of result))
-            × (IsTrue (S.tells source.old) → (IsTrue self.old.ended → S.left source.old ≡ []) →
-            HandsOut self.old (self.old.bytes ++ S.left source.old) new (new.bytes ++ S.left source.new) (answer_of result)
-            × (IsTrue new.ended → S.left source.new ≡ []))
-            × (IsTrue (S.tells source.old) →
-            Takes self.old new (S.left source.old) (S.left source.new) (S.read_bytes source.old) (S.read_bytes source.new) (answer_of result)))) }
+            Steps self.old new (S.shown source.old) (S.shown source.new) (answer_of result))) }
         ensures quiet { IsTrue self.old.ended → source.new ≡ source.old }
-        ensures told { S.tells source.new ≡ S.tells source.old }
-        ensures later { S.faults source.old ≤ S.faults source.new }
-        ensures cause { IsReadFault (answer_of result) → Rose (S.faults source.old) (S.faults source.new) }
+        ensures told { (S.shown source.new).tells ≡ (S.shown source.old).tells }
+        ensures later { (S.shown source.old).faults ≤ (S.shown source.new).faults }
+        ensures fault { IsReadFault (answer_of result) →
+            LastFailed (S.shown source.old) (S.shown source.new) }
     {
         match find(&mut self.window, source) {
             Found::Line(from, upto) => Next::Line(&self.window.buf[from..upto]),
@@ -126,21 +125,27 @@ fn find<S: Source>(window: &mut Window, source: &mut S) -> Found
     requires sound { IsSound window.old }
     ensures sound { IsSound window.new }
     ensures place { LiesIn window.new result }
-    ensures advances { Advances (state window.old) (state window.new) (S.taken source.old) (S.taken source.new) (answer_in window.new.buf.items result) }
-    ensures ended { (IsTrue window.old.ended → IsTrue (S.ended source.old)) → IsTrue window.new.ended → IsTrue (S.ended source.new) }
-    ensures splits { IsTrue (S.tells source.old) →
-        Splits (held window.old ++ S.left source.old) (held window.new ++ S.left source.new) (answer_in window.new.buf.items result) }
-    ensures hands { IsTrue (S.tells source.old) → (IsTrue window.old.ended → S.left source.old ≡ []) →
-        HandsOut (state window.old) (held window.old ++ S.left source.old) (state window.new) (held window.new ++ S.left source.new)
-        (answer_in window.new.buf.items result)
-        × (IsTrue window.new.ended → S.left source.new ≡ []) }
-    ensures takes { IsTrue (S.tells source.old) →
-        Takes (state window.old) (state window.new) (S.left source.old) (S.left source.new) (S.read_bytes source.old) (S.read_bytes source.new)
-        (answer_in window.new.buf.items result) }
+    ensures advances { Advances (state window.old) (state window.new)
+        (S.shown source.old).taken (S.shown source.new).taken (found_in window.new result) }
+    ensures true_end { EndIsTrue (state window.old) (S.shown source.old) →
+        EndIsTrue (state window.new) (S.shown source.new) }
+    ensures remembered { IsTrue (S.shown source.new).ended → window.new.ended ≡ false →
+        source.new ≡ source.old }
+    ensures fault { IsReadFault (found_in window.new result) →
+        LastFailed (S.shown source.old) (S.shown source.new) }
+    ensures takes { ReadingIsTold (S.shown source.old) → Takes (state window.old) (state window.new)
+        (S.shown source.old) (S.shown source.new) (found_in window.new result) }
+    ensures hands { ReadingIsTold (S.shown source.old) →
+        EndIsLast (state window.old) (S.shown source.old) →
+        HandsOut (state window.old) (to_come (state window.old) (S.shown source.old))
+        (state window.new) (to_come (state window.new) (S.shown source.new))
+        (found_in window.new result) }
+    ensures last_end { ReadingIsTold (S.shown source.old) →
+        EndIsLast (state window.old) (S.shown source.old) →
+        EndIsLast (state window.new) (S.shown source.new) }
     ensures quiet { IsTrue window.old.ended → source.new ≡ source.old }
-    ensures told { S.tells source.new ≡ S.tells source.old }
-    ensures later { S.faults source.old ≤ S.faults source.new }
-    ensures cause { IsReadFault (answer_in window.new.buf.items result) → Rose (S.faults source.old) (S.faults source.new) }
+    ensures told { (S.shown source.new).tells ≡ (S.shown source.old).tells }
+    ensures later { (S.shown source.old).faults ≤ (S.shown source.new).faults }
 {
     let mut seen = 0usize;
     loop {
@@ -181,10 +186,11 @@ fn newline_from(bytes: &[u8], seen: usize) -> Option<usize>
     }
 }
 
-/// How a line of `len` bytes fares that begins behind `handed` bytes of the script, with a newline at its end or not.
+/// How a line of `len` bytes fares that begins behind `handed` bytes of the script, with a newline
+/// at its end or not.
 fn judge(handed: u64, len: usize, newline: bool) -> Fit
     requires { handed ≤ 1073741824 }
-    ensures { (bytes : List ℕ) → length bytes ≡ len → fit handed (record { bytes = bytes; newline = newline }) ≡ fit_of result }
+    ensures { Fares handed len newline result }
 {
     let allowed = LONGEST_SCRIPT - handed;
     let passes = if newline {
@@ -208,7 +214,7 @@ fn hand_out(window: &mut Window, len: usize, newline: bool) -> Found
     ensures sound { IsSound window.new }
     ensures place { LiesIn window.new result }
     ensures ended { window.new.ended ≡ window.old.ended }
-    ensures hands { Hands window.old window.new (record { bytes = take len (held window.old); newline = newline }) result }
+    ensures hands { Hands window.old window.new (front_line window.old len newline) result }
 {
     match judge(window.handed, len, newline) {
         Fit::Fits => {
@@ -223,7 +229,8 @@ fn hand_out(window: &mut Window, len: usize, newline: bool) -> Found
     }
 }
 
-/// Moves the held bytes to the buffer's front where fewer than a longest line with its line end fit from their place on.
+/// Moves the held bytes to the buffer's front where fewer than a longest line with its line end fit
+/// from their place on.
 fn make_room(window: &mut Window)
     requires sound { IsSound window.old }
     requires short { length (held window.old) ≤ 65536 }
@@ -250,14 +257,18 @@ fn refill<S: Source>(window: &mut Window, source: &mut S) -> Got
     ensures bound { GotWithin result 262148 }
     ensures handed { window.new.handed ≡ window.old.handed }
     ensures ended { window.new.ended ≡ is_end result }
-    ensures source_ended { S.ended source.new ≡ is_end result }
-    ensures taken { S.taken source.new ≡ S.taken source.old + count_of result }
-    ensures stream { IsTrue (S.tells source.old) → held window.new ++ S.left source.new ≡ held window.old ++ S.left source.old }
-    ensures comes { IsTrue (S.tells source.old) →
-        Comes (held window.old) (held window.new) (S.left source.old) (S.left source.new) (S.read_bytes source.old) (S.read_bytes source.new) }
-    ensures end { IsTrue (S.tells source.old) → IsTrue (is_end result) → S.left source.new ≡ [] }
-    ensures told { S.tells source.new ≡ S.tells source.old }
-    ensures cause { HasCause (S.faults source.old) (S.faults source.new) (is_failed result) }
+    ensures source_ended { (S.shown source.new).ended ≡ is_end result }
+    ensures taken { (S.shown source.new).taken ≡ (S.shown source.old).taken + count_of result }
+    ensures stream { ReadingIsTold (S.shown source.old) →
+        to_come (state window.new) (S.shown source.new)
+        ≡ to_come (state window.old) (S.shown source.old) }
+    ensures comes { ReadingIsTold (S.shown source.old) →
+        Comes (held window.old) (held window.new) (S.shown source.old) (S.shown source.new) }
+    ensures end { ReadingIsTold (S.shown source.old) → IsTrue (is_end result) →
+        (S.shown source.new).left ≡ [] }
+    ensures told { (S.shown source.new).tells ≡ (S.shown source.old).tells }
+    ensures cause { HasCause (S.shown source.old).faults (S.shown source.new).faults
+        (is_failed result) }
 {
     make_room(window);
     let got = read_behind(&mut window.buf, window.upto, source);
@@ -275,13 +286,7 @@ fn read_behind<S: Source>(buf: &mut [u8], used: usize, source: &mut S) -> Got
     ensures bound { GotWithin result (length buf.old - used) }
     ensures room { length buf.new ≡ length buf.old }
     ensures kept { take used buf.new ≡ take used buf.old }
-    ensures bytes { IsTrue (S.tells source.old) → S.left source.old ≡ take (count_of result) (drop used buf.new) ++ S.left source.new }
-    ensures read_bytes { IsTrue (S.tells source.old) → S.read_bytes source.new ≡ S.read_bytes source.old ++ take (count_of result) (drop used buf.new) }
-    ensures end { IsTrue (S.tells source.old) → IsTrue (is_end result) → S.left source.old ≡ [] }
-    ensures taken { S.taken source.new ≡ S.taken source.old + count_of result }
-    ensures source_ended { S.ended source.new ≡ is_end result }
-    ensures told { S.tells source.new ≡ S.tells source.old }
-    ensures cause { HasCause (S.faults source.old) (S.faults source.new) (is_failed result) }
+    ensures reads { Reads (S.shown source.old) (S.shown source.new) result (drop used buf.new) }
 {
     source.read(&mut buf[used..])
 }

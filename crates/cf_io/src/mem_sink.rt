@@ -1,12 +1,14 @@
-ghost use Rattle.std.specs.Prelude.{◌≡◌, ℕ, ◌+◌, ◌<◌, ◌≤◌, Bool, true, List, [], ◌++◌, length, take, vec_len, IsTrue, IfOk};
+//! Sinks in memory.
+
+ghost use Rattle.std.specs.Prelude.{◌≡◌, ℕ, ◌+◌, ◌<◌, ◌≤◌, [], ◌++◌, length, take, true, vec_len, IfOk};
 
 use crate::NoMemory;
 use crate::calls::Calls;
 use crate::sink::{Put, Sink};
 use std::alloc::Global;
 
-/// A sink in memory with a fixed room. A write takes at most `piece` bytes, and fails where the sink is full. The calls
-/// fail whose numbers, counted from 0, are listed.
+/// A sink in memory with a fixed room. A write takes at most `piece` bytes, and fails where the
+/// sink is full. The calls fail whose numbers, counted from 0, are listed.
 #[derive(Drop)]
 pub struct MemSink {
     room: Vec<u8>,
@@ -18,7 +20,7 @@ pub struct MemSink {
 }
 
 impl MemSink {
-    ghost use Rattle.cf_io.specs.Memory.{writer};
+    ghost use Rattle.cf_io.specs.Memory.{new_writer, sink_view, unwritten_view, writer};
 
     /// An empty sink, whose room of `room` bytes is taken at once.
     pub fn new(
@@ -28,10 +30,8 @@ impl MemSink {
         fails: Vec<u64>,
     ) -> Result<MemSink, NoMemory>
         requires { 1 ≤ piece }
-        ensures writer { IfOk result (λ s. writer s ≡ record { written = []; room = room; piece = piece; fails = fails.items; calls = 0 }) }
-        ensures tells { IfOk result (λ s. IsTrue (⟦<MemSink as Sink>⟧.tells s)) }
-        ensures written { IfOk result (λ s. ⟦<MemSink as Sink>⟧.written s ≡ []) }
-        ensures faults { IfOk result (λ s. ⟦<MemSink as Sink>⟧.faults s ≡ 0) }
+        ensures writer { IfOk result (λ s. writer s ≡ new_writer room piece fails.items) }
+        ensures shown { IfOk result (λ s. sink_view s ≡ unwritten_view) }
     {
         let room = vec![in alloc; 0u8; room]?;
         Ok(MemSink {
@@ -44,7 +44,7 @@ impl MemSink {
 
     /// The bytes that were written.
     pub fn bytes(&self) -> &[u8]
-        ensures { result.now ≡ ⟦<MemSink as Sink>⟧.written self.now }
+        ensures { result.now ≡ (sink_view self.now).written }
     {
         &self.room[..self.used]
     }
@@ -60,23 +60,18 @@ fn copy_behind(buf: &mut [u8], used: usize, piece: &[u8])
 }
 
 impl Sink for MemSink {
-    ghost use Rattle.cf_io.specs.Causes.{HasCause};
-    ghost use Rattle.cf_io.specs.Memory.{after_write, write_answer, writer};
-    ghost use Rattle.cf_io.specs.Putting.{is_put_failed, took, TookWithin};
+    ghost use Rattle.cf_io.specs.Memory.{after_write, sink_view, write_answer, writer};
+    ghost use Rattle.cf_io.specs.Putting.{CountsWrites, TookWithin, Writes};
 
-    ghost tells = { λ _. true };
-
-    ghost written = { λ s. take s.used s.room.items };
-
-    ghost faults = { λ s. s.calls.faults };
+    ghost shown = { sink_view };
 
     fn write(&mut self, piece: &[u8]) -> Put
         requires { 0 < length piece.now }
         ensures answer { result ≡ write_answer (writer self.old) (length piece.now) }
         ensures writer { writer self.new ≡ after_write (writer self.old) piece.now result }
         ensures bound { TookWithin result (length piece.now) }
-        ensures bytes { ⟦<MemSink as Sink>⟧.written self.new ≡ ⟦<MemSink as Sink>⟧.written self.old ++ take (took result) piece.now }
-        ensures cause { HasCause (⟦<MemSink as Sink>⟧.faults self.old) (⟦<MemSink as Sink>⟧.faults self.new) (is_put_failed result) }
+        ensures writes { Writes (sink_view self.old) (sink_view self.new) result piece.now }
+        ensures counts { CountsWrites (sink_view self.old) (sink_view self.new) result }
     {
         if self.calls.fails_now() {
             return Put::Failed;

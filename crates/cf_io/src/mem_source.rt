@@ -1,10 +1,13 @@
-ghost use Rattle.std.specs.Prelude.{◌≡◌, ℕ, ◌+◌, ◌<◌, ◌≤◌, Bool, true, false, List, [], ◌++◌, length, take, drop, vec_len, IsTrue};
+//! Sources in memory.
+
+ghost use Rattle.std.specs.Prelude.{◌≡◌, ℕ, ◌<◌, ◌≤◌, length, vec_len};
 
 use crate::calls::{Calls, copy_front, piece_len};
 use crate::source::{Got, Source};
 
-/// Bytes in memory. A read ends at the next multiple of `piece`, at place `cut` if it began before it, at the buffer's end
-/// or at the last byte. The calls fail whose numbers, counted from 0, are listed.
+/// Bytes in memory. A read ends at the next multiple of `piece`, at place `cut` if it began before
+/// it, at the buffer's end or at the last byte. The calls fail whose numbers, counted from 0, are
+/// listed.
 #[derive(Drop)]
 pub struct MemSource {
     bytes: Vec<u8>,
@@ -18,18 +21,13 @@ pub struct MemSource {
 }
 
 impl MemSource {
-    ghost use Rattle.cf_io.specs.Memory.{reader};
+    ghost use Rattle.cf_io.specs.Memory.{new_reader, reader, source_view, unread_view};
 
     /// A source that has all its bytes left.
     pub fn new(bytes: Vec<u8>, piece: usize, cut: usize, fails: Vec<u64>) -> MemSource
         requires { 1 ≤ piece }
-        ensures reader { reader result ≡ record { bytes = bytes.items; piece = piece; cut = cut; fails = fails.items; at = 0; calls = 0 } }
-        ensures tells { IsTrue (⟦<MemSource as Source>⟧.tells result) }
-        ensures left { ⟦<MemSource as Source>⟧.left result ≡ bytes.items }
-        ensures read_bytes { ⟦<MemSource as Source>⟧.read_bytes result ≡ [] }
-        ensures taken { ⟦<MemSource as Source>⟧.taken result ≡ 0 }
-        ensures ended { ⟦<MemSource as Source>⟧.ended result ≡ false }
-        ensures faults { ⟦<MemSource as Source>⟧.faults result ≡ 0 }
+        ensures reader { reader result ≡ new_reader bytes.items piece cut fails.items }
+        ensures shown { source_view result ≡ unread_view bytes.items }
     {
         MemSource {
             bytes,
@@ -43,33 +41,18 @@ impl MemSource {
 }
 
 impl Source for MemSource {
-    ghost use Rattle.cf_io.specs.Causes.{HasCause};
-    ghost use Rattle.cf_io.specs.Memory.{after_read, read_answer, reader};
-    ghost use Rattle.cf_io.specs.Reading.{count_of, is_end, is_failed, GotWithin};
+    ghost use Rattle.cf_io.specs.Memory.{after_read, read_answer, reader, source_view};
+    ghost use Rattle.cf_io.specs.Reading.{CountsReads, GotWithin, Reads};
 
-    ghost tells = { λ _. true };
-
-    ghost left = { λ s. drop s.at s.bytes.items };
-
-    ghost read_bytes = { λ s. take s.at s.bytes.items };
-
-    ghost taken = { λ s. s.at };
-
-    ghost ended = { λ s. s.ended };
-
-    ghost faults = { λ s. s.calls.faults };
+    ghost shown = { source_view };
 
     fn read(&mut self, buf: &mut [u8]) -> Got
         requires { 0 < length buf.old }
         ensures answer { result ≡ read_answer (reader self.old) (length buf.old) }
         ensures reader { reader self.new ≡ after_read (reader self.old) result }
         ensures bound { GotWithin result (length buf.new) }
-        ensures taken { ⟦<MemSource as Source>⟧.taken self.new ≡ ⟦<MemSource as Source>⟧.taken self.old + count_of result }
-        ensures bytes { ⟦<MemSource as Source>⟧.left self.old ≡ take (count_of result) buf.new ++ ⟦<MemSource as Source>⟧.left self.new }
-        ensures read_bytes { ⟦<MemSource as Source>⟧.read_bytes self.new ≡ ⟦<MemSource as Source>⟧.read_bytes self.old ++ take (count_of result) buf.new }
-        ensures end { IsTrue (is_end result) → ⟦<MemSource as Source>⟧.left self.old ≡ [] }
-        ensures ended { ⟦<MemSource as Source>⟧.ended self.new ≡ is_end result }
-        ensures cause { HasCause (⟦<MemSource as Source>⟧.faults self.old) (⟦<MemSource as Source>⟧.faults self.new) (is_failed result) }
+        ensures reads { Reads (source_view self.old) (source_view self.new) result buf.new }
+        ensures counts { CountsReads (source_view self.old) (source_view self.new) result }
     {
         self.ended = false;
         if self.calls.fails_now() {

@@ -8,6 +8,7 @@ use Rattle.cf_pkg.specs.Packages.{meaning}
 use Rattle.cf_pkg.proofs.Valued.{Keeps-same}
 use Rattle.std.proofs.lemmas.List.{take-append-drop, append_assoc, append-nil}
 use Rattle.cf_io.specs.Causes.{Rose}
+use Rattle.cf_io.specs.Shown.{SinkView}
 use Rattle.cf_reference.specs.Trees.{Tree, Statement, Empty, Level, Vars, Let, Value, First, Listed, Equal, Size, Stats}
 use Rattle.cf_reference.specs.Reasons.{Taken, NoLevel, Overflow, unless}
 use Rattle.cf_reference.specs.States.{State, Files, is_among}
@@ -32,14 +33,14 @@ use Rattle.cf_session.proofs.Growth.{grown_same}
 use Rattle.cf_session.proofs.StatementFacts.{some-is}
 use Rattle.cf_reference.specs.Replies.{bits_reply, listed_reply}
 use Rattle.cf_reference.specs.Answers.{list_reply}
-use Rattle.cf_session.specs.Stepping.{AppendsFront, Sunk, Wrote, Failed, Puts, Does, reply_in, wants_level, lacks_level}
+use Rattle.cf_session.specs.Stepping.{AppendsFront, Wrote, Failed, Puts, Does, reply_in, wants_level, lacks_level}
 
 -- a front of some length
 front-of : (before after text : List ℕ) (n : ℕ) → after ≡ before ++ take n text → AppendsFront before after text
 front-of before after text n e =
     record { front = take n text; rest = drop n text; appended = e; whole = sym (take-append-drop n text) }
 
-pub puts : (before after : Sunk) (text : List ℕ) (all : Bool) → after.tells ≡ before.tells → before.faults ≤ after.faults
+pub puts : (before after : SinkView) (text : List ℕ) (all : Bool) → after.tells ≡ before.tells → before.faults ≤ after.faults
     → (IsTrue before.tells → IsTrue all → after.written ≡ before.written ++ text)
     → (IsTrue before.tells → (n : ℕ) × (after.written ≡ before.written ++ take n text))
     → (all ≡ false → Rose before.faults after.faults) → Puts before after text all
@@ -52,14 +53,14 @@ puts before after text false told later whole front rose = record {
 }
 
 -- Some lines of a list were written, and these assignments are left.
-pub record HasListed (before now : Sunk) (all left : List (List Bool)) (count : ℕ) : Type 0 where
+pub record HasListed (before now : SinkView) (all left : List (List Bool)) (count : ℕ) : Type 0 where
   pub told : now.tells ≡ before.tells
   pub later : before.faults ≤ now.faults
   pub within : count ≤ length all
   pub left_is : left ≡ drop count all
   pub bytes : IsTrue before.tells → now.written ≡ before.written ++ flat_map bits_reply (take count all)
 
-pub none-listed : (before : Sunk) (all : List (List Bool)) → HasListed before before all all 0
+pub none-listed : (before : SinkView) (all : List (List Bool)) → HasListed before before all all 0
 none-listed before all = record {
   told = refl;
   later = omega arith;
@@ -95,7 +96,7 @@ flat_one : (x : List Bool) → flat_map bits_reply (x ∷ []) ≡ bits_reply x
 flat_one x = append-nil (bits_reply x)
 
 -- one line more
-pub one-listed : (before now after : Sunk) (all left rest : List (List Bool)) (x : List Bool) (count : ℕ) (text : List ℕ)
+pub one-listed : (before now after : SinkView) (all left rest : List (List Bool)) (x : List Bool) (count : ℕ) (text : List ℕ)
     → HasListed before now all left count → left ≡ x ∷ rest → text ≡ bits_reply x → Wrote now after text
     → HasListed before after all rest (count + 1)
 one-listed before now after all left rest x count text h next is w =
@@ -131,7 +132,7 @@ front_on before now after first text rest whole e w f = record {
 }
 
 -- a line that isn't written
-pub not-listed : (before now after : Sunk) (all left rest : List (List Bool)) (x : List Bool) (count : ℕ) (text : List ℕ)
+pub not-listed : (before now after : SinkView) (all left rest : List (List Bool)) (x : List Bool) (count : ℕ) (text : List ℕ)
     → HasListed before now all left count → left ≡ x ∷ rest → text ≡ bits_reply x → Failed now after text
     → Failed before after (list_reply all)
 not-listed before now after all left rest x count text h next is f =
@@ -148,7 +149,7 @@ not-listed before now after all left rest x count text h next is f =
     }
 
 -- the last line
-pub all-listed : (before now after : Sunk) (all left : List (List Bool)) (count : ℕ) (text : List ℕ) (whole : Bool)
+pub all-listed : (before now after : SinkView) (all left : List (List Bool)) (count : ℕ) (text : List ℕ) (whole : Bool)
     → HasListed before now all left count → left ≡ [] → text ≡ listed_reply count → Puts now after text whole
     → Puts before after (list_reply all) whole
 all-listed before now after all left count text true h none is w =
@@ -207,11 +208,11 @@ let-goes h m n name e f set free none means grows level variables functions =
     ∙ ap (λ (l : Option ℕ). Goes (record { level = l; variables = names_of n.variables; functions = (state_of n).functions }) []) (sym (level ∙ grows.names.level))
 
 -- where nothing is to be written
-nothing-wrote : (at : Sunk) → Wrote at at []
+nothing-wrote : (at : SinkView) → Wrote at at []
 nothing-wrote at = record { told = refl; later = omega arith; bytes = λ t. sym (append-nil at.written) }
 
 -- an empty line
-pub does-nothing : (files : Files) (h : Held) (t : Statement) (at : Sunk) → t ≡ Empty
+pub does-nothing : (files : Files) (h : Held) (t : Statement) (at : SinkView) → t ≡ Empty
     → Does (step files (state_of h) t) h h at at stepped.Written
 does-nothing files h t at is =
     let e = ap (step files (state_of h)) is in
@@ -230,7 +231,7 @@ wants (Equal name other) e = tt
 wants (Size name) e = tt
 wants Stats e = tt
 
-pub does-lack : (files : Files) (h : Held) (t : Statement) (at : Sunk) → lacks_level (state_of h) t ≡ true
+pub does-lack : (files : Files) (h : Held) (t : Statement) (at : SinkView) → lacks_level (state_of h) t ≡ true
     → Does (step files (state_of h) t) h h at at (stepped.Refused refusal.NoLevel)
 does-lack files h t at e = by (is_some h.level) (wants_level t) refl refl e
   where

@@ -1,6 +1,7 @@
 use Rattle.std.specs.Prelude.{◌≡◌, ◌≤◌, ℕ, Bool, true, false, not, ◌&&◌, is_some, List, [], ◌++◌, IsTrue}
 use Rattle.std.specs.Prelude.{Result, Ok, Err}
 use Rattle.cf_io.specs.Causes.{Rose}
+use Rattle.cf_io.specs.Shown.{SinkView}
 use Rattle.cf_reference.specs.Trees.{Statement, Empty, Level, Value, First}
 use Rattle.cf_reference.specs.Carrying.{Outcome, Refuses, Goes}
 use Rattle.cf_reference.specs.States.{State}
@@ -60,41 +61,32 @@ NeedsNoMemory (Value name bits) = Unit {0}
 NeedsNoMemory (First name v) = Unit {0}
 NeedsNoMemory others = ⊥
 
--- A sink as clauses see it: whether it tells its bytes, those that were written, and how often it failed.
-pub record Sunk : Type 0 where
-  pub tells : Bool
-  pub written : List ℕ
-  pub faults : ℕ
-
 -- The text was written.
-pub record Wrote (before after : Sunk) (text : List ℕ) : Type 0 where
+pub record Wrote (before after : SinkView) (text : List ℕ) : Type 0 where
   pub told : after.tells ≡ before.tells
   pub later : before.faults ≤ after.faults
   pub bytes : IsTrue before.tells → after.written ≡ before.written ++ text
 
 -- A write of the text failed.
-pub record Failed (before after : Sunk) (text : List ℕ) : Type 0 where
+pub record Failed (before after : SinkView) (text : List ℕ) : Type 0 where
   pub told : after.tells ≡ before.tells
   pub rose : Rose before.faults after.faults
   pub later : before.faults ≤ after.faults
   pub front : IsTrue before.tells → AppendsFront before.written after.written text
 
 -- What came of writing a text.
-abbrev pub Puts : Sunk → Sunk → List ℕ → Bool → Type 0
+abbrev pub Puts : SinkView → SinkView → List ℕ → Bool → Type 0
 Puts before after text true = Wrote before after text
 Puts before after text false = Failed before after text
 
 -- What a statement with this outcome did to the session and to the sink.
-abbrev pub Does : Outcome → Held → Held → Sunk → Sunk → Stepped → Type 0
+abbrev pub Does : Outcome → Held → Held → SinkView → SinkView → Stepped → Type 0
 Does outcome old new before after stepped.Written =
     (refuses outcome ≡ false) × (outcome ≡ Goes (state_of new) (reply_in outcome)) × Keeps old.pkg new.pkg × Wrote before after (reply_in outcome)
 Does outcome old new before after (stepped.Refused r) = (outcome ≡ Refuses (reason_of r)) × Grows old new × (after ≡ before)
 Does outcome old new before after stepped.WriteFault = (refuses outcome ≡ false) × Grows old new × Failed before after (reply_in outcome)
 Does outcome old new before after stepped.FileFault = ⊥
 Does outcome old new before after stepped.NoMemory = Grows old new × (after ≡ before)
-
-abbrev pub sunk : Bool → List ℕ → ℕ → Sunk
-sunk tells written faults = record { tells = tells; written = written; faults = faults }
 
 -- whether a statement wants a level
 abbrev pub wants_level : Statement → Bool
@@ -107,7 +99,7 @@ abbrev pub lacks_level : State → Statement → Bool
 lacks_level s t = not (is_some s.level) && wants_level t
 
 -- What an answer came to: its text was written or a write failed, or there was none, and nothing was written.
-abbrev pub Answers : Result (Unit {0}) StepFault → List ℕ → Sunk → Sunk → Stepped → Type 0
+abbrev pub Answers : Result (Unit {0}) StepFault → List ℕ → SinkView → SinkView → Stepped → Type 0
 Answers (Ok made) text before after stepped.Written = Wrote before after text
 Answers (Ok made) text before after stepped.WriteFault = Failed before after text
 Answers (Ok made) text before after other = ⊥
@@ -117,7 +109,7 @@ Answers (Err (Refused r)) text before after (stepped.Refused q) = (q ≡ r) × (
 Answers (Err (Refused r)) text before after other = ⊥
 
 -- the same where memory isn't wanted
-abbrev pub AnswersAlways : Result (Unit {0}) Refusal → List ℕ → Sunk → Sunk → Stepped → Type 0
+abbrev pub AnswersAlways : Result (Unit {0}) Refusal → List ℕ → SinkView → SinkView → Stepped → Type 0
 AnswersAlways (Ok made) text before after stepped.Written = Wrote before after text
 AnswersAlways (Ok made) text before after stepped.WriteFault = Failed before after text
 AnswersAlways (Ok made) text before after other = ⊥

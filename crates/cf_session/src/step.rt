@@ -1,7 +1,8 @@
 //! A statement.
 
-ghost use Rattle.std.specs.Prelude.{◌≡◌, ◌≢◌, ◌≤◌, ◌++◌, [], length, IsTrue, IsSome, IfErr, OnOk, OnErr};
+ghost use Rattle.std.specs.Prelude.{◌≡◌, ◌≢◌, ◌≤◌, ◌++◌, [], length, IsSome, IfErr, OnOk, OnErr};
 ghost use Rattle.cf_io.specs.Causes.{Rose};
+ghost use Rattle.cf_io.specs.Shown.{WritingIsTold};
 ghost use Rattle.cf_pkg.specs.Packages.{Keeps};
 ghost use Rattle.cf_reference.specs.Trees.{Formed, IsFormed};
 ghost use Rattle.cf_reference.specs.Trees as tree;
@@ -11,7 +12,7 @@ ghost use Rattle.cf_reference.specs.States.{is_among};
 ghost use Rattle.cf_reference.specs.Carrying.{Goes, define, tell_list, step};
 ghost use Rattle.cf_script.specs.Views.{tree_of, statement_of};
 ghost use Rattle.cf_session.specs.Sessions.{state_of};
-ghost use Rattle.cf_session.specs.Stepping.{LeadsTo, Replies, IsAnswerTo, NeedsNoMemory, Puts, Does, sunk, wants_level, lacks_level, Answers, AnswersAlways, stepped_by};
+ghost use Rattle.cf_session.specs.Stepping.{LeadsTo, Replies, IsAnswerTo, NeedsNoMemory, Puts, Does, wants_level, lacks_level, Answers, AnswersAlways, stepped_by};
 ghost use Rattle.cf_session.specs.Statements.{IsFaultOfStep};
 ghost use Rattle.cf_session.specs.Building.{Grows};
 
@@ -37,8 +38,7 @@ pub enum Stepped {
 
 /// Writes a text.
 fn put_text<K: Sink>(out: &mut K, text: &Text) -> bool
-    ensures { Puts (sunk (K.tells out.old) (K.written out.old) (K.faults out.old))
-        (sunk (K.tells out.new) (K.written out.new) (K.faults out.new)) text.now result }
+    ensures { Puts (K.shown out.old) (K.shown out.new) text.now result }
 {
     put_all(out, text.bytes())
 }
@@ -46,8 +46,7 @@ fn put_text<K: Sink>(out: &mut K, text: &Text) -> bool
 /// Writes assignments, one in a line, and how many they are.
 fn put_listing<K: Sink>(out: &mut K, listing: Listing, text: &mut Text) -> bool
     requires { length listing ≤ 1000 }
-    ensures { Puts (sunk (K.tells out.old) (K.written out.old) (K.faults out.old))
-        (sunk (K.tells out.new) (K.written out.new) (K.faults out.new)) (list_reply listing) result }
+    ensures { Puts (K.shown out.old) (K.shown out.new) (list_reply listing) result }
 {
     let mut count = 0u64;
     for at in listing {
@@ -63,8 +62,7 @@ fn put_listing<K: Sink>(out: &mut K, listing: Listing, text: &mut Text) -> bool
 
 /// Writes an answer, if there is one.
 fn answer<K: Sink>(made: Result<(), StepFault>, text: &Text, out: &mut K) -> Stepped
-    ensures { Answers made text.now (sunk (K.tells out.old) (K.written out.old) (K.faults out.old))
-        (sunk (K.tells out.new) (K.written out.new) (K.faults out.new)) result }
+    ensures { Answers made text.now (K.shown out.old) (K.shown out.new) result }
 {
     match made {
         Ok(()) => {
@@ -81,8 +79,7 @@ fn answer<K: Sink>(made: Result<(), StepFault>, text: &Text, out: &mut K) -> Ste
 
 /// Writes an answer that wants no memory, if there is one.
 fn answer_always<K: Sink>(made: Result<(), Refusal>, text: &Text, out: &mut K) -> Stepped
-    ensures { AnswersAlways made text.now (sunk (K.tells out.old) (K.written out.old) (K.faults out.old))
-        (sunk (K.tells out.new) (K.written out.new) (K.faults out.new)) result }
+    ensures { AnswersAlways made text.now (K.shown out.old) (K.shown out.new) result }
 {
     match made {
         Ok(()) => {
@@ -164,8 +161,8 @@ impl Session {
         out: &mut K,
     ) -> Stepped
         requires set { IsSome self.now.level }
-        ensures { Does (tell_list (state_of self.now) name.now v most) self.now self.now (sunk (K.tells out.old) (K.written out.old) (K.faults out.old))
-            (sunk (K.tells out.new) (K.written out.new) (K.faults out.new)) result }
+        ensures { Does (tell_list (state_of self.now) name.now v most) self.now self.now
+            (K.shown out.old) (K.shown out.new) result }
     {
         match self.list(name, v, most) {
             Ok(listing) => {
@@ -189,8 +186,9 @@ impl Session {
         out: &mut K,
     ) -> Stepped
         requires { Formed (statement_of statement.now) }
-        ensures does { Does (step (F.entries files.old) (state_of self.old) (statement_of statement.now)) self.old self.new (sunk (K.tells out.old) (K.written out.old) (K.faults out.old))
-            (sunk (K.tells out.new) (K.written out.new) (K.faults out.new)) result }
+        ensures does { Does
+            (step (F.shown files.old).entries (state_of self.old) (statement_of statement.now))
+            self.old self.new (K.shown out.old) (K.shown out.new) result }
         ensures memory { NeedsNoMemory (statement_of statement.now) → result ≢ Stepped.NoMemory }
         ensures files { files.new ≡ files.old }
     {
@@ -228,16 +226,21 @@ impl Session {
         out: &mut K,
     ) -> Stepped
         requires { Formed (statement_of statement.now) }
-        ensures leads { LeadsTo (step (F.entries files.old) (state_of self.old) (statement_of statement.now)) self.old self.new result }
-        ensures replies { IsTrue (K.tells out.old) → Replies (step (F.entries files.old) (state_of self.old) (statement_of statement.now)) (K.written out.old) (K.written out.new) result }
-        ensures complete { (Rose (K.faults out.old) (K.faults out.new) → ⊥) → result ≢ Stepped.NoMemory
-            → IsAnswerTo (step (F.entries files.old) (state_of self.old) (statement_of statement.now)) result }
+        ensures leads { LeadsTo
+            (step (F.shown files.old).entries (state_of self.old) (statement_of statement.now))
+            self.old self.new result }
+        ensures replies { WritingIsTold (K.shown out.old) → Replies
+            (step (F.shown files.old).entries (state_of self.old) (statement_of statement.now))
+            (K.shown out.old).written (K.shown out.new).written result }
+        ensures complete { (Rose (K.shown out.old).faults (K.shown out.new).faults → ⊥) →
+            result ≢ Stepped.NoMemory → IsAnswerTo
+            (step (F.shown files.old).entries (state_of self.old) (statement_of statement.now)) result }
         ensures memory { NeedsNoMemory (statement_of statement.now) → result ≢ Stepped.NoMemory }
-        ensures write { result ≡ Stepped.WriteFault → Rose (K.faults out.old) (K.faults out.new) }
+        ensures write { result ≡ Stepped.WriteFault → Rose (K.shown out.old).faults (K.shown out.new).faults }
         ensures file { result ≢ Stepped.FileFault }
         ensures kept { Keeps self.old.pkg self.new.pkg }
-        ensures told { K.tells out.new ≡ K.tells out.old }
-        ensures later { K.faults out.old ≤ K.faults out.new }
+        ensures told { (K.shown out.new).tells ≡ (K.shown out.old).tells }
+        ensures later { (K.shown out.old).faults ≤ (K.shown out.new).faults }
         ensures files { files.new ≡ files.old }
     {
         self.step_on(files, statement, text, out)

@@ -7,6 +7,7 @@ mod status;
 
 ghost use Rattle.std.specs.Prelude.{◌≡◌, ◌≢◌, ℕ, ◌+◌, ◌≤◌, ◌⊎◌, List, [], ◌∷◌, ◌++◌, IsTrue, true, false, map, string_bytes};
 ghost use Rattle.cf_io.specs.Causes.{Rose};
+ghost use Rattle.cf_io.specs.Shown.{ReadingIsTold, WritingIsTold};
 ghost use Rattle.cf_reference.specs.States.{initial};
 ghost use Rattle.cf_reference.specs.Scripts.{ref, is_run, Ending};
 ghost use Rattle.cf_pkg.specs.Packages.{Keeps};
@@ -38,20 +39,22 @@ pub fn run<S: Source, F: Files, K: Sink>(
     // Where the bytes that are read and written are told, the reference run says what is written, how it ends and which
     // level and names the session has then. Only a fault or want of memory cuts it off.
     ensures run { let said = map string_bytes words.now in
-        (IsTrue (is_run said) → IsTrue (S.tells script.old)) → IsTrue (K.tells out.old) →
-        Meets (ref (F.entries files.old) said (S.left script.old)) (K.written out.old) (K.written out.new)
-        (S.taken script.old) (S.taken script.new) (state_of session.new) result }
+        (IsTrue (is_run said) → ReadingIsTold (S.shown script.old)) → WritingIsTold (K.shown out.old) →
+        Meets (ref (F.shown files.old).entries said (S.shown script.old).left)
+        (K.shown out.old).written (K.shown out.new).written
+        (S.shown script.old).taken (S.shown script.new).taken (state_of session.new) result }
     ensures complete { let said = map string_bytes words.now in
-        (IsTrue (is_run said) → IsTrue (S.tells script.old)) → IsTrue (K.tells out.old) →
-        ¬ Rose (S.faults script.old) (S.faults script.new) →
-        ¬ Rose (F.faults files.old) (F.faults files.new) →
-        ¬ Rose (K.faults out.old) (K.faults out.new) →
+        (IsTrue (is_run said) → ReadingIsTold (S.shown script.old)) → WritingIsTold (K.shown out.old) →
+        ¬ Rose (S.shown script.old).faults (S.shown script.new).faults →
+        ¬ Rose (F.shown files.old).faults (F.shown files.new).faults →
+        ¬ Rose (K.shown out.old).faults (K.shown out.new).faults →
         result ≢ Status.NoMemory →
-        Completes (ref (F.entries files.old) said (S.left script.old)) (K.written out.old) (K.written out.new) result }
+        Completes (ref (F.shown files.old).entries said (S.shown script.old).left)
+        (K.shown out.old).written (K.shown out.new).written result }
 
     // At Done the source has ended, and nothing is left.
-    ensures ended { result ≡ Status.Done → IsTrue (S.ended script.new) }
-    ensures done { IsTrue (S.tells script.old) → result ≡ Status.Done → S.left script.new ≡ [] }
+    ensures ended { result ≡ Status.Done → IsTrue (S.shown script.new).ended }
+    ensures done { ReadingIsTold (S.shown script.old) → result ≡ Status.Done → (S.shown script.new).left ≡ [] }
 
     // Other words than `run` read nothing and want no memory.
     ensures usage { result ≡ Status.Usage → is_run (map string_bytes words.now) ≡ false }
@@ -60,13 +63,15 @@ pub fn run<S: Source, F: Files, K: Sink>(
     ensures unread { is_run (map string_bytes words.now) ≡ false → (script.new ≡ script.old) × (session.new ≡ session.old) }
 
     // Faults have causes.
-    ensures read { result ≡ Status.ReadFault → Rose (S.faults script.old) (S.faults script.new) }
-    ensures write { result ≡ Status.WriteFault → Rose (K.faults out.old) (K.faults out.new) }
-    ensures file { result ≡ Status.FileFault → Rose (F.faults files.old) (F.faults files.new) }
+    ensures read { result ≡ Status.ReadFault → Rose (S.shown script.old).faults (S.shown script.new).faults }
+    ensures write { result ≡ Status.WriteFault → Rose (K.shown out.old).faults (K.shown out.new).faults }
+    ensures file { result ≡ Status.FileFault → Rose (F.shown files.old).faults (F.shown files.new).faults }
 
     // What stays as it was.
-    ensures told { (S.tells script.new ≡ S.tells script.old) × (K.tells out.new ≡ K.tells out.old) }
-    ensures later { (S.faults script.old ≤ S.faults script.new) × (K.faults out.old ≤ K.faults out.new) }
+    ensures told { ((S.shown script.new).tells ≡ (S.shown script.old).tells)
+        × ((K.shown out.new).tells ≡ (K.shown out.old).tells) }
+    ensures later { ((S.shown script.old).faults ≤ (S.shown script.new).faults)
+        × ((K.shown out.old).faults ≤ (K.shown out.new).faults) }
     ensures files { files.new ≡ files.old }
     ensures kept { Keeps session.old.pkg session.new.pkg }
 {

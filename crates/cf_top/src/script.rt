@@ -2,6 +2,7 @@
 
 ghost use Rattle.std.specs.Prelude.{◌≡◌, ◌≢◌, ℕ, ◌+◌, ◌≤◌, List, [], ◌∷◌, ◌++◌, IsTrue, true, false};
 ghost use Rattle.cf_io.specs.Causes.{Rose};
+ghost use Rattle.cf_io.specs.Shown.{ReadingIsTold, WritingIsTold};
 ghost use Rattle.cf_reference.specs.Trees.{Formed};
 ghost use Rattle.cf_reference.specs.Lines.{lines as lines_of};
 ghost use Rattle.cf_reference.specs.Parsing.{parse};
@@ -38,16 +39,19 @@ pub(crate) fn run_script<S: Source, F: Files, K: Sink>(
     files: &mut F,
     out: &mut K,
 ) -> Status
-    ensures run { IsTrue (S.tells script.old) → IsTrue (K.tells out.old) →
-        Meets (run_lines (F.entries files.old) (state_of session.old) 1 0 (lines_of (S.left script.old))) (K.written out.old) (K.written out.new)
-        (S.taken script.old) (S.taken script.new) (state_of session.new) result }
-    ensures ended { result ≡ Status.Done → IsTrue (S.ended script.new) }
-    ensures done { IsTrue (S.tells script.old) → result ≡ Status.Done → S.left script.new ≡ [] }
+    ensures run { ReadingIsTold (S.shown script.old) → WritingIsTold (K.shown out.old) →
+        Meets (run_lines (F.shown files.old).entries (state_of session.old) 1 0 (lines_of (S.shown script.old).left))
+        (K.shown out.old).written (K.shown out.new).written
+        (S.shown script.old).taken (S.shown script.new).taken (state_of session.new) result }
+    ensures ended { result ≡ Status.Done → IsTrue (S.shown script.new).ended }
+    ensures done { ReadingIsTold (S.shown script.old) → result ≡ Status.Done → (S.shown script.new).left ≡ [] }
     ensures words { result ≢ Status.Usage }
-    ensures told { (S.tells script.new ≡ S.tells script.old) × (K.tells out.new ≡ K.tells out.old) }
-    ensures later { (S.faults script.old ≤ S.faults script.new) × (K.faults out.old ≤ K.faults out.new) }
-    ensures read { result ≡ Status.ReadFault → Rose (S.faults script.old) (S.faults script.new) }
-    ensures write { result ≡ Status.WriteFault → Rose (K.faults out.old) (K.faults out.new) }
+    ensures told { ((S.shown script.new).tells ≡ (S.shown script.old).tells)
+        × ((K.shown out.new).tells ≡ (K.shown out.old).tells) }
+    ensures later { ((S.shown script.old).faults ≤ (S.shown script.new).faults)
+        × ((K.shown out.old).faults ≤ (K.shown out.new).faults) }
+    ensures read { result ≡ Status.ReadFault → Rose (S.shown script.old).faults (S.shown script.new).faults }
+    ensures write { result ≡ Status.WriteFault → Rose (K.shown out.old).faults (K.shown out.new).faults }
     ensures file { result ≢ Status.FileFault }
     ensures files { files.new ≡ files.old }
     ensures kept { Keeps session.old.pkg session.new.pkg }
@@ -68,16 +72,19 @@ fn run_lines<S: Source, F: Files, K: Sink>(
     out: &mut K,
 ) -> Status
     requires { lines.old ≡ record { bytes = []; handed = 0; ended = false } }
-    ensures run { IsTrue (S.tells script.old) → IsTrue (K.tells out.old) →
-        Meets (run_lines (F.entries files.old) (state_of session.old) 1 0 (lines_of (S.left script.old))) (K.written out.old) (K.written out.new)
-        (S.taken script.old) (S.taken script.new) (state_of session.new) result }
-    ensures ended { result ≡ Status.Done → IsTrue (S.ended script.new) }
-    ensures done { IsTrue (S.tells script.old) → result ≡ Status.Done → S.left script.new ≡ [] }
+    ensures run { ReadingIsTold (S.shown script.old) → WritingIsTold (K.shown out.old) →
+        Meets (run_lines (F.shown files.old).entries (state_of session.old) 1 0 (lines_of (S.shown script.old).left))
+        (K.shown out.old).written (K.shown out.new).written
+        (S.shown script.old).taken (S.shown script.new).taken (state_of session.new) result }
+    ensures ended { result ≡ Status.Done → IsTrue (S.shown script.new).ended }
+    ensures done { ReadingIsTold (S.shown script.old) → result ≡ Status.Done → (S.shown script.new).left ≡ [] }
     ensures words { result ≢ Status.Usage }
-    ensures told { (S.tells script.new ≡ S.tells script.old) × (K.tells out.new ≡ K.tells out.old) }
-    ensures later { (S.faults script.old ≤ S.faults script.new) × (K.faults out.old ≤ K.faults out.new) }
-    ensures read { result ≡ Status.ReadFault → Rose (S.faults script.old) (S.faults script.new) }
-    ensures write { result ≡ Status.WriteFault → Rose (K.faults out.old) (K.faults out.new) }
+    ensures told { ((S.shown script.new).tells ≡ (S.shown script.old).tells)
+        × ((K.shown out.new).tells ≡ (K.shown out.old).tells) }
+    ensures later { ((S.shown script.old).faults ≤ (S.shown script.new).faults)
+        × ((K.shown out.old).faults ≤ (K.shown out.new).faults) }
+    ensures read { result ≡ Status.ReadFault → Rose (S.shown script.old).faults (S.shown script.new).faults }
+    ensures write { result ≡ Status.WriteFault → Rose (K.shown out.old).faults (K.shown out.new).faults }
     ensures file { result ≢ Status.FileFault }
     ensures files { files.new ≡ files.old }
     ensures kept { Keeps session.old.pkg session.new.pkg }
@@ -112,13 +119,13 @@ fn carry_line<F: Files, K: Sink>(
     text: &mut Text,
     out: &mut K,
 ) -> Carried
-    ensures carries { IsTrue (K.tells out.old) →
-        Carries (step_parsed (F.entries files.old) (state_of session.old) (parse line.now)) number
-        (state_of session.old) (K.written out.old) (state_of session.new) (K.written out.new) result }
+    ensures carries { WritingIsTold (K.shown out.old) →
+        Carries (step_parsed (F.shown files.old).entries (state_of session.old) (parse line.now)) number
+        (state_of session.old) (K.shown out.old).written (state_of session.new) (K.shown out.new).written result }
     ensures stops { EndsLine result }
-    ensures told { K.tells out.new ≡ K.tells out.old }
-    ensures later { K.faults out.old ≤ K.faults out.new }
-    ensures write { result ≡ Carried.Stops Status.WriteFault → Rose (K.faults out.old) (K.faults out.new) }
+    ensures told { (K.shown out.new).tells ≡ (K.shown out.old).tells }
+    ensures later { (K.shown out.old).faults ≤ (K.shown out.new).faults }
+    ensures write { result ≡ Carried.Stops Status.WriteFault → Rose (K.shown out.old).faults (K.shown out.new).faults }
     ensures files { files.new ≡ files.old }
     ensures kept { Keeps session.old.pkg session.new.pkg }
 {
@@ -146,13 +153,13 @@ fn carry_statement<F: Files, K: Sink>(
     out: &mut K,
 ) -> Carried
     requires { Formed (statement_of statement.now) }
-    ensures carries { IsTrue (K.tells out.old) →
-        Carries (step (F.entries files.old) (state_of session.old) (statement_of statement.now)) number
-        (state_of session.old) (K.written out.old) (state_of session.new) (K.written out.new) result }
+    ensures carries { WritingIsTold (K.shown out.old) →
+        Carries (step (F.shown files.old).entries (state_of session.old) (statement_of statement.now)) number
+        (state_of session.old) (K.shown out.old).written (state_of session.new) (K.shown out.new).written result }
     ensures stops { EndsLine result }
-    ensures told { K.tells out.new ≡ K.tells out.old }
-    ensures later { K.faults out.old ≤ K.faults out.new }
-    ensures write { result ≡ Carried.Stops Status.WriteFault → Rose (K.faults out.old) (K.faults out.new) }
+    ensures told { (K.shown out.new).tells ≡ (K.shown out.old).tells }
+    ensures later { (K.shown out.old).faults ≤ (K.shown out.new).faults }
+    ensures write { result ≡ Carried.Stops Status.WriteFault → Rose (K.shown out.old).faults (K.shown out.new).faults }
     ensures files { files.new ≡ files.old }
     ensures kept { Keeps session.old.pkg session.new.pkg }
 {
@@ -169,12 +176,12 @@ fn carry_statement<F: Files, K: Sink>(
 
 /// Writes the refusal of a line, which ends the run.
 fn refuse<K: Sink>(reason: Reason, number: u64, text: &mut Text, out: &mut K) -> Status
-    ensures refused { IsTrue (K.tells out.old) → (s : State) →
-        StopsAt (Refuses (reason_view reason)) number s (K.written out.old) s (K.written out.new) result }
+    ensures refused { WritingIsTold (K.shown out.old) → (s : State) →
+        StopsAt (Refuses (reason_view reason)) number s (K.shown out.old).written s (K.shown out.new).written result }
     ensures stops { EndsRefusal result }
-    ensures told { K.tells out.new ≡ K.tells out.old }
-    ensures later { K.faults out.old ≤ K.faults out.new }
-    ensures write { result ≡ Status.WriteFault → Rose (K.faults out.old) (K.faults out.new) }
+    ensures told { (K.shown out.new).tells ≡ (K.shown out.old).tells }
+    ensures later { (K.shown out.old).faults ≤ (K.shown out.new).faults }
+    ensures write { result ≡ Status.WriteFault → Rose (K.shown out.old).faults (K.shown out.new).faults }
 {
     refused_text(number, reason.number(), reason.detail(), text);
     if put_all(out, text.bytes()) {

@@ -1,6 +1,8 @@
-use Rattle.std.proofs.Common.{◌≡◌, ◌+◌, ◌-◌, ◌≤◌, [], ◌++◌, length, take, IsTrue, cond}
+use Rattle.std.proofs.Common.{◌≡◌, ◌+◌, ◌-◌, ◌≤◌, length, take, IsTrue, false, cond}
 use Rattle.cf_reference.specs.Lines.{NoNewline}
-use Rattle.cf_io.specs.Windows.{Comes, held, IsSound}
+use Rattle.cf_io.specs.LineSteps.{EndIsLast, EndIsTrue, to_come}
+use Rattle.cf_io.specs.Shown.{ReadingIsTold}
+use Rattle.cf_io.specs.Windows.{Comes, held, IsSound, state}
 use Rattle.cf_io.proofs.lines.find.Given as goal
 
 -- nothing was handed out yet, the bytes that are to come stay the same, and no newline was seen
@@ -12,16 +14,19 @@ invariant-loop-i g l =
       handed : l.window.handed ≡ l.fn.window.handed;
       seen : l.seen ≤ length (held l.window);
       plain : NoNewline (take l.seen (held l.window));
-      taken : length (held l.window) + source.taken l.fn.source ≡ length (held l.fn.window) + source.taken l.source;
+      taken : length (held l.window) + (source.shown l.fn.source).taken ≡ length (held l.fn.window) + (source.shown l.source).taken;
       stays : IsTrue l.fn.window.ended → IsTrue l.window.ended;
-      ends : (IsTrue l.fn.window.ended → IsTrue (source.ended l.fn.source)) → IsTrue l.window.ended → IsTrue (source.ended l.source);
-      stream : IsTrue (source.tells l.fn.source) → held l.window ++ source.left l.source ≡ held l.fn.window ++ source.left l.fn.source;
-      attached : IsTrue (source.tells l.fn.source) → (IsTrue l.fn.window.ended → source.left l.fn.source ≡ []) → IsTrue l.window.ended → source.left l.source ≡ [];
-      comes : IsTrue (source.tells l.fn.source) →
-          Comes (held l.fn.window) (held l.window) (source.left l.fn.source) (source.left l.source) (source.read_bytes l.fn.source) (source.read_bytes l.source);
+      ends : EndIsTrue (state l.fn.window) (source.shown l.fn.source) → EndIsTrue (state l.window) (source.shown l.source);
+      remembers : IsTrue (source.shown l.source).ended → l.window.ended ≡ false → l.source ≡ l.fn.source;
+      stream : ReadingIsTold (source.shown l.fn.source) →
+          to_come (state l.window) (source.shown l.source) ≡ to_come (state l.fn.window) (source.shown l.fn.source);
+      attached : ReadingIsTold (source.shown l.fn.source) → EndIsLast (state l.fn.window) (source.shown l.fn.source) →
+          EndIsLast (state l.window) (source.shown l.source);
+      comes : ReadingIsTold (source.shown l.fn.source) →
+          Comes (held l.fn.window) (held l.window) (source.shown l.fn.source) (source.shown l.source);
       quiet : IsTrue l.fn.window.ended → l.source ≡ l.fn.source;
-      told : source.tells l.source ≡ source.tells l.fn.source;
-      later : source.faults l.fn.source ≤ source.faults l.source;
+      told : (source.shown l.source).tells ≡ (source.shown l.fn.source).tells;
+      later : (source.shown l.fn.source).faults ≤ (source.shown l.source).faults;
     }
 
 abbrev pub decreases-loop-i : goal.decreases-loop-i

@@ -11,7 +11,7 @@ returns-in-Got-clause-stream g c = λ told.
     let new = c.read_behind-got.new.buf in
     stream_kept w.from w.upto c.in-Got.count (w.upto + c.in-Got.count) _ new c.deref_mut.result.now (held c.args.window.now) _ _
     (with_items_is w.buf new (c.read_behind-got.ensures.room ∙ c.deref_mut.ensures.len)) c.make_room.ensures.sound.ordered (omega arith) c.read_behind-got.ensures.kept
-    (ap (between w.from w.upto) c.deref_mut.ensures.value ∙ ap (λ (h : Held). h.bytes) c.make_room.ensures.same) (c.in-Got.ensures.bytes told)
+    (ap (between w.from w.upto) c.deref_mut.ensures.value ∙ ap (λ (h : Held). h.bytes) c.make_room.ensures.same) (c.in-Got.ensures.reads.left told)
 
 pub returns-in-End-clause-kept : goal.returns-in-End-clause-kept
 returns-in-End-clause-kept g c =
@@ -27,7 +27,7 @@ returns-in-End-clause-stream g c = λ told.
     let new = c.read_behind-got.new.buf in
     stream_kept w.from w.upto 0 w.upto _ new c.deref_mut.result.now (held c.args.window.now) _ _
     (with_items_is w.buf new (c.read_behind-got.ensures.room ∙ c.deref_mut.ensures.len)) c.make_room.ensures.sound.ordered (omega arith) c.read_behind-got.ensures.kept
-    (ap (between w.from w.upto) c.deref_mut.ensures.value ∙ ap (λ (h : Held). h.bytes) c.make_room.ensures.same) (c.in-End.ensures.bytes told)
+    (ap (between w.from w.upto) c.deref_mut.ensures.value ∙ ap (λ (h : Held). h.bytes) c.make_room.ensures.same) (c.in-End.ensures.reads.left told)
 
 pub returns-in-Failed-clause-kept : goal.returns-in-Failed-clause-kept
 returns-in-Failed-clause-kept g c =
@@ -43,28 +43,28 @@ returns-in-Failed-clause-stream g c = λ told.
     let new = c.read_behind-got.new.buf in
     stream_kept w.from w.upto 0 w.upto _ new c.deref_mut.result.now (held c.args.window.now) _ _
     (with_items_is w.buf new (c.read_behind-got.ensures.room ∙ c.deref_mut.ensures.len)) c.make_room.ensures.sound.ordered (omega arith) c.read_behind-got.ensures.kept
-    (ap (between w.from w.upto) c.deref_mut.ensures.value ∙ ap (λ (h : Held). h.bytes) c.make_room.ensures.same) (c.in-Failed.ensures.bytes told)
+    (ap (between w.from w.upto) c.deref_mut.ensures.value ∙ ap (λ (h : Held). h.bytes) c.make_room.ensures.same) (c.in-Failed.ensures.reads.left told)
 
 pub returns-in-Got-clause-comes : goal.returns-in-Got-clause-comes
 returns-in-Got-clause-comes g c = λ told.
     let w = c.make_room.new.window in
     let new = c.read_behind-got.new.buf in
-    comes_behind w.from w.upto c.in-Got.count (w.upto + c.in-Got.count) _ new c.deref_mut.result.now (held c.args.window.now) _ _ _ _
+    comes_behind w.from w.upto c.in-Got.count (w.upto + c.in-Got.count) _ new c.deref_mut.result.now (held c.args.window.now) _ _
     (with_items_is w.buf new (c.read_behind-got.ensures.room ∙ c.deref_mut.ensures.len)) c.make_room.ensures.sound.ordered (omega arith) c.read_behind-got.ensures.kept
-    (ap (between w.from w.upto) c.deref_mut.ensures.value ∙ ap (λ (h : Held). h.bytes) c.make_room.ensures.same) (c.in-Got.ensures.bytes told) (c.in-Got.ensures.read_bytes told)
+    (ap (between w.from w.upto) c.deref_mut.ensures.value ∙ ap (λ (h : Held). h.bytes) c.make_room.ensures.same) (c.in-Got.ensures.reads.left told) (c.in-Got.ensures.reads.read told)
 
 pub returns-in-End-clause-comes : goal.returns-in-End-clause-comes
 returns-in-End-clause-comes g c = λ told.
     let w = c.make_room.new.window in
     let new = c.read_behind-got.new.buf in
-    comes_behind w.from w.upto 0 w.upto _ new c.deref_mut.result.now (held c.args.window.now) _ _ _ _
+    comes_behind w.from w.upto 0 w.upto _ new c.deref_mut.result.now (held c.args.window.now) _ _
     (with_items_is w.buf new (c.read_behind-got.ensures.room ∙ c.deref_mut.ensures.len)) c.make_room.ensures.sound.ordered (omega arith) c.read_behind-got.ensures.kept
-    (ap (between w.from w.upto) c.deref_mut.ensures.value ∙ ap (λ (h : Held). h.bytes) c.make_room.ensures.same) (c.in-End.ensures.bytes told) (c.in-End.ensures.read_bytes told)
+    (ap (between w.from w.upto) c.deref_mut.ensures.value ∙ ap (λ (h : Held). h.bytes) c.make_room.ensures.same) (c.in-End.ensures.reads.left told) (c.in-End.ensures.reads.read told)
 
 pub returns-in-Failed-clause-comes : goal.returns-in-Failed-clause-comes
 returns-in-Failed-clause-comes g c = λ told.
     let w = c.make_room.new.window in
     let new = c.read_behind-got.new.buf in
-    comes_behind w.from w.upto 0 w.upto _ new c.deref_mut.result.now (held c.args.window.now) _ _ _ _
+    comes_behind w.from w.upto 0 w.upto _ new c.deref_mut.result.now (held c.args.window.now) _ _
     (with_items_is w.buf new (c.read_behind-got.ensures.room ∙ c.deref_mut.ensures.len)) c.make_room.ensures.sound.ordered (omega arith) c.read_behind-got.ensures.kept
-    (ap (between w.from w.upto) c.deref_mut.ensures.value ∙ ap (λ (h : Held). h.bytes) c.make_room.ensures.same) (c.in-Failed.ensures.bytes told) (c.in-Failed.ensures.read_bytes told)
+    (ap (between w.from w.upto) c.deref_mut.ensures.value ∙ ap (λ (h : Held). h.bytes) c.make_room.ensures.same) (c.in-Failed.ensures.reads.left told) (c.in-Failed.ensures.reads.read told)

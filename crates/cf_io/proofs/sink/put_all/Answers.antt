@@ -8,13 +8,13 @@ loop-done-preserved g c =
     let kept = c.loop-done.invariant in
     record {
       within = omega (arith, c.in-Took.ensures.bound, length-drop c.loop-done.done c.args.bytes.now);
-      same = cc;
-      later = omega arith;
+      same = c.in-Took.ensures.writes.told ∙ kept.same;
+      later = omega (arith, kept.later, c.in-Took.ensures.writes.cause.later);
       front = λ told.
-          let told_here : IsTrue (g.K.Sink.tells c.loop-done.out) = subst IsTrue (sym kept.same) told in
-          c.in-Took.ensures.bytes told_here
-          ∙ ap (λ xs. g.K.Sink.written c.loop-done.out ++ take c.in-Took.count xs) (take_rest c.args.bytes.now c.loop-done.done)
+          let told_here : IsTrue (g.K.Sink.shown c.loop-done.out).tells = subst IsTrue (sym kept.same) told in
+          c.in-Took.ensures.writes.written told_here
+          ∙ ap (λ xs. (g.K.Sink.shown c.loop-done.out).written ++ take c.in-Took.count xs) (take_rest c.args.bytes.now c.loop-done.done)
           ∙ ap (λ xs. xs ++ take c.in-Took.count (drop c.loop-done.done c.args.bytes.now)) (kept.front told)
-          ∙ append_assoc (g.K.Sink.written c.args.out.now) (take c.loop-done.done c.args.bytes.now) (take c.in-Took.count (drop c.loop-done.done c.args.bytes.now))
-          ∙ ap (λ xs. g.K.Sink.written c.args.out.now ++ xs) (sym (take-add c.loop-done.done c.in-Took.count c.args.bytes.now));
+          ∙ append_assoc (g.K.Sink.shown c.args.out.now).written (take c.loop-done.done c.args.bytes.now) (take c.in-Took.count (drop c.loop-done.done c.args.bytes.now))
+          ∙ ap (λ xs. (g.K.Sink.shown c.args.out.now).written ++ xs) (sym (take-add c.loop-done.done c.in-Took.count c.args.bytes.now));
     }

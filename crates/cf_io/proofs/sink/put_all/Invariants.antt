@@ -1,4 +1,5 @@
-use Rattle.std.proofs.Common.{length, ◌-◌, ◌≡◌, ◌≤◌, ◌++◌, take, IsTrue}
+use Rattle.std.proofs.Common.{length, ◌-◌, ◌≡◌, ◌≤◌, ◌++◌, take}
+use Rattle.cf_io.specs.Shown.{WritingIsTold}
 use Rattle.cf_io.proofs.sink.put_all.Given as goal
 
 -- what was written is the front of the bytes that the loop has come to
@@ -7,9 +8,9 @@ invariant-loop-done g l =
     let out = g.K.Sink in
     record {
       within : l.done ≤ length l.bytes;
-      same : out.tells l.out ≡ out.tells l.fn.out;
-      later : out.faults l.fn.out ≤ out.faults l.out;
-      front : IsTrue (out.tells l.fn.out) → out.written l.out ≡ out.written l.fn.out ++ take l.done l.bytes;
+      same : (out.shown l.out).tells ≡ (out.shown l.fn.out).tells;
+      later : (out.shown l.fn.out).faults ≤ (out.shown l.out).faults;
+      front : WritingIsTold (out.shown l.fn.out) → (out.shown l.out).written ≡ (out.shown l.fn.out).written ++ take l.done l.bytes;
     }
 
 abbrev pub decreases-loop-done : goal.decreases-loop-done

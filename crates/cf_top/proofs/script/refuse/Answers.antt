@@ -8,7 +8,7 @@ use Rattle.cf_top.proofs.script.refuse.Goals as goal
 
 pub returns-else-put_all-clause-refused : goal.returns-else-put_all-clause-refused
 returns-else-put_all-clause-refused g c = λ told s.
-    subst (AppendsFront (g.K.Sink.written c.args.out.now) (g.K.Sink.written c.put_all.new.out))
+    subst (AppendsFront (g.K.Sink.shown c.args.out.now).written (g.K.Sink.shown c.put_all.new.out).written)
     (c.bytes.ensures.bytes
     ∙ c.refused_text.ensures.text
     ∙ c.detail.ensures c.args.number c.number.result
