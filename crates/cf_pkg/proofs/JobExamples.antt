@@ -8,12 +8,13 @@ use Rattle.cf_model.specs.declared.terms.Term.{X, Y, Z, Fold, Ite}
 use Rattle.cf_model.proofs.DiagramExamples.{two_a_level}
 use Rattle.cf_pkg.specs.declared.Func.{Func}
 use Rattle.cf_pkg.specs.declared.jobs.Job.TheVariants.{Const, Var, Map, Apply, Ternary, Restrict, Kron, Matmul, Transpose, Id, Walsh, Unit as UnitAt}
+use Rattle.cf_pkg.specs.Memos.{no_job}
 use Rattle.cf_pkg.specs.Packages.{Package, package_of, OwnsFunction}
 use Rattle.cf_pkg.specs.Jobs.{apply_value, ternary_value, job_level, job_value, AreLevel, IsInOrder}
 
 -- a package with two functions of each level
 abbrev two_each : Package
-two_each = package_of (record { levels = two_a_level; tuples = []; products = [] }) ((pos 3 ∷ []) ∷ (pos 0 ∷ pos 1 ∷ []) ∷ [])
+two_each = package_of (record { levels = two_a_level; tuples = []; products = [] }) ((pos 3 ∷ []) ∷ (pos 0 ∷ pos 1 ∷ []) ∷ []) no_job
 
 -- 3 everywhere
 abbrev three : ℕ → Func

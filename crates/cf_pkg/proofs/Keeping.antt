@@ -13,6 +13,7 @@ use Rattle.cf_values.specs.Books.{Lengthens, IsInterned}
 use Rattle.cf_values.proofs.BookLaws.{kept_at}
 use Rattle.cf_table.specs.declared.Gid.{Gid}
 use Rattle.cf_build.specs.Assembling.{Stands}
+use Rattle.cf_pkg.specs.Memos.{Remembered, IsFinished}
 use Rattle.cf_pkg.specs.Packages.{Package, values_of, Means, Keeps}
 use Rattle.cf_pkg.specs.Basics.{bit_exit, constant_pattern, variable_pattern}
 use Rattle.cf_pkg.proofs.Made.{constant_exits, variable_exits}
@@ -22,11 +23,12 @@ abbrev flat : ℕ → List ℤ → FlatFunction
 flat l values = record { level = l; values = values }
 
 -- functions stay as the table and the book grow
-pub keeps : (p q : Package) → IsGood p.groupings.levels → Extends p.groupings.levels q.groupings.levels → KeepsTuples p.groupings.tuples q.groupings.tuples → Lengthens p.lists q.lists → Keeps p q
-keeps p q good x tuples lists = record {
+pub keeps : (p q : Package) → IsGood p.groupings.levels → Extends p.groupings.levels q.groupings.levels → KeepsTuples p.groupings.tuples q.groupings.tuples → Lengthens p.lists q.lists → q.memo ≡ p.memo → Keeps p q
+keeps p q good x tuples lists memo = record {
   groupings = x;
   tuples = tuples;
   lists = lists;
+  jobs = λ t f h. subst (λ (m : Remembered). IsFinished m t f) (sym memo) h;
   functions = λ f o.
       (let t = p.groupings.levels in
       let u = q.groupings.levels in

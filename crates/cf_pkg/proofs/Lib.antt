@@ -14,5 +14,9 @@ pub mod Heading
 pub mod Works
 pub mod Added
 pub mod Making
+pub mod Finishing
+pub mod Keys
+pub mod Memos
 pub mod Remembering
+pub mod Doing
 pub mod JobExamples

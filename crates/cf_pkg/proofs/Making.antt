@@ -27,7 +27,7 @@ some_read None x e = cc
 some_read (Some y) x e = cc
 
 -- a function's values are those that it has, one assignment after another
-listed : (q : Package) → IsGood q.groupings.levels → (f : Func) (l : ℕ) (value : List Bool → Option ℤ) → HasValues q f l value
+pub listed : (q : Package) → IsGood q.groupings.levels → (f : Func) (l : ℕ) (value : List Bool → Option ℤ) → HasValues q f l value
     → (meaning q f).values ≡ (tabulated l (λ bits. unwrap_or (value bits) (pos 0))).values
 listed q good f l value h =
     let vs = values_of q f in

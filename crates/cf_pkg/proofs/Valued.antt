@@ -157,6 +157,7 @@ Keeps-same p = record {
   tuples = TuplesStay p.groupings.tuples p.groupings.tuples refl;
   lists = Lengthens-same p.lists p.lists refl;
   functions = λ f o. record { owned = o; is_it = refl };
+  jobs = λ t f h. h;
 }
 
 pub Keeps-trans : (p q r : Package) → Keeps p q → Keeps q r → Keeps p r
@@ -168,6 +169,7 @@ Keeps-trans p q r a b = record {
       (let m = a.functions f o in
       let n = b.functions f m.owned in
       record { owned = n.owned; is_it = n.is_it ∙ m.is_it });
+  jobs = λ t f h. b.jobs t f (a.jobs t f h);
 }
 
 -- what was added first, and what was added to that

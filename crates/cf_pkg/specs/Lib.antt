@@ -1,3 +1,5 @@
+pub mod Tasks
+pub mod Memos
 pub mod Packages
 pub mod Basics
 pub mod Firsts

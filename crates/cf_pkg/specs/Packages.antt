@@ -7,19 +7,26 @@ use Rattle.cf_table.specs.Groupings.{Groupings, only_base, Owns, exits_of, patte
 use Rattle.cf_tuple.specs.Books.{Lengthens as KeepsTuples}
 use Rattle.cf_values.specs.Books.{Lengthens}
 use Rattle.cf_pkg.specs.declared.Func.{Func}
+use Rattle.cf_pkg.specs.Tasks.{Task}
+use Rattle.cf_pkg.specs.Memos.{Remembered, no_job, IsFinished}
 
--- A package as contracts see it: its groupings, and its lists of values.
+-- A package as contracts see it: its groupings, its lists of values, and the finished jobs that it remembers.
 pub record Package : Type 0 where
   pub groupings : Groupings
   pub lists : List (List ℤ)
+  pub memo : Remembered
 
--- the package of these groupings and these lists of values
-abbrev pub package_of : Groupings → List (List ℤ) → Package
-package_of t lists = record { groupings = t; lists = lists }
+-- the package of these groupings and these lists of values, with these jobs
+abbrev pub package_of : Groupings → List (List ℤ) → Remembered → Package
+package_of t lists memo = record { groupings = t; lists = lists; memo = memo }
 
--- the package without a function: the two groupings of level 0, and no list of values
+-- the package without a function: the two groupings of level 0, no list of values, and no job
 abbrev pub no_function : Package
-no_function = record { groupings = only_base; lists = [] }
+no_function = record { groupings = only_base; lists = []; memo = no_job }
+
+-- The job is finished in the package, with this function.
+abbrev pub IsRemembered : Package → Task → Func → Type 0
+IsRemembered p t f = IsFinished p.memo t f
 
 -- the values of a function, one for each exit of its grouping
 abbrev pub values_of : Package → Func → List ℤ
@@ -40,12 +47,14 @@ pub record Means (p : Package) (f : Func) (flat : FlatFunction) : Type 0 where
   pub owned : OwnsFunction p f
   pub is_it : meaning p f ≡ flat
 
--- What was in the package is there at its ids, and each function means what it meant.
+-- What was in the package is there at its ids, each function means what it meant, and each finished job has the function
+-- that it had.
 pub record Keeps (before now : Package) : Type 0 where
   pub groupings : Extends before.groupings.levels now.groupings.levels
   pub tuples : KeepsTuples before.groupings.tuples now.groupings.tuples
   pub lists : Lengthens before.lists now.lists
   pub functions : (f : Func) → OwnsFunction before f → Means now f (meaning before f)
+  pub jobs : (t : Task) (f : Func) → IsRemembered before t f → IsRemembered now t f
 
 -- all that the pattern of a function's grouping is made of
 abbrev pub function_parts : Package → Func → List Pattern

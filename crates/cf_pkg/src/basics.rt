@@ -1,16 +1,18 @@
 //! The groupings of constants and of variables.
 
-ghost use Rattle.std.specs.Prelude.{◌≡◌, ◌<◌, ◌≤◌, ◌-◌, ◌%◌, ◌^◌, length, slice_get, Some, All, IfOk};
+ghost use Rattle.std.specs.Prelude.{◌≡◌, ◌<◌, ◌≤◌, ◌+◌, ◌-◌, ◌%◌, ◌^◌, length, slice_get, Some, All, IfOk};
 ghost use Rattle.cf_model.specs.Values.{Fits};
 ghost use Rattle.cf_model.specs.Renumbering.{AllDiffer};
 ghost use Rattle.cf_model.specs.Diagrams.{IsGood, Extends};
 ghost use Rattle.cf_tuple.specs.Books.{Lengthens};
 ghost use Rattle.cf_build.specs.Assembling.{Stands};
 ghost use Rattle.cf_pkg.specs.Basics.{constant_pattern, variable_pattern, AreBasics};
-ghost use Rattle.cf_pkg.specs.Packages.{Keeps};
-ghost use Rattle.cf_pkg.specs.Remembering.{IsConstant, IsVariable};
+ghost use Rattle.cf_pkg.specs.Tasks as task;
+ghost use Rattle.cf_pkg.specs.Packages.{IsRemembered, Keeps};
+ghost use Rattle.cf_pkg.specs.Jobs.{Finishes, AnswersFinished};
+ghost use Rattle.cf_pkg.specs.Remembering.{FinishesBelow};
 
-use crate::memo::JobKey;
+use crate::memo::{Alone, JobKey};
 use crate::{Func, Pkg};
 use cf_build::assemble;
 use cf_table::{DONT_CARE, FORK, Gid, Table};
@@ -132,6 +134,7 @@ impl Pkg {
         ensures head { IfOk result (λ f. f.head ≡ head) }
         ensures values { IfOk result (λ f. slice_get self.new.lists f.vals.at ≡ Some values.now) }
         ensures groupings { self.new.groupings ≡ self.old.groupings }
+        ensures memo { self.new.memo ≡ self.old.memo }
         ensures kept { Keeps self.old self.new }
     {
         self.table.law();
@@ -145,6 +148,7 @@ impl Pkg {
         requires level { level ≤ 7 }
         requires below { Stands self.old.groupings.levels below (level - 1) (constant_pattern (level - 1)) }
         ensures stands { IfOk result (λ g. Stands self.new.groupings.levels g level (constant_pattern level)) }
+        ensures memo { self.new.memo ≡ self.old.memo }
         ensures kept { Keeps self.old self.new }
     {
         self.table.law();
@@ -158,21 +162,25 @@ impl Pkg {
         requires variable { i < 2 ^ level }
         requires below { AreBasics self.old.groupings.levels below (level - 1) (i % 2 ^ (level - 1)) }
         ensures stands { IfOk result (λ g. Stands self.new.groupings.levels g level (variable_pattern level i)) }
+        ensures memo { self.new.memo ≡ self.old.memo }
         ensures kept { Keeps self.old self.new }
     {
         self.table.law();
         variable_above(self.alloc, &mut self.table, level, i, below)
     }
 
-    /// The function that is v everywhere, from the memo if it is there.
+    /// The function that is v everywhere, which is remembered.
     #[cycle(constant)]
     pub(crate) fn known_constant(&mut self, level: u8, v: i128) -> Result<Func, NoMemory>
         requires level { level ≤ 7 }
-        ensures remembered { IfOk result (λ f. IsConstant self.new f level v) }
+        ensures is_it { IfOk result (Finishes self.new (task.Const level v)) }
+        ensures remembered { IfOk result (IsRemembered self.new (task.Const level v)) }
+        ensures finished { AnswersFinished self.old self.new (task.Const level v) result }
+        ensures below { FinishesBelow self.old self.new (level + 1) }
         ensures kept { Keeps self.old self.new }
     {
-        let key = JobKey::Constant { level, value: v };
-        if let Some(known) = self.remembered(key) {
+        let key = JobKey::Alone(Alone::Constant { level, value: v });
+        if let Some(known) = self.finished(key) {
             return Ok(known);
         }
         let head = self.constant_grouping(level)?;
@@ -187,6 +195,7 @@ impl Pkg {
     fn constant_grouping(&mut self, level: u8) -> Result<Gid, NoMemory>
         requires level { level ≤ 7 }
         ensures stands { IfOk result (λ g. Stands self.new.groupings.levels g level (constant_pattern level)) }
+        ensures below { FinishesBelow self.old self.new level }
         ensures kept { Keeps self.old self.new }
     {
         if level == 0 {
@@ -194,19 +203,23 @@ impl Pkg {
             return Ok(DONT_CARE);
         }
         let below = self.known_constant(level - 1, 0)?;
+        self.law(below);
         self.constant_over(level, below.head)
     }
 
-    /// The function that is bit i, from the memo if it is there.
+    /// The function that is bit i, which is remembered.
     #[cycle(variable)]
     pub(crate) fn known_variable(&mut self, level: u8, i: u8) -> Result<Func, NoMemory>
         requires level { level ≤ 7 }
         requires variable { i < 2 ^ level }
-        ensures remembered { IfOk result (λ f. IsVariable self.new f level i) }
+        ensures is_it { IfOk result (Finishes self.new (task.Var level i)) }
+        ensures remembered { IfOk result (IsRemembered self.new (task.Var level i)) }
+        ensures finished { AnswersFinished self.old self.new (task.Var level i) result }
+        ensures below { FinishesBelow self.old self.new (level + 1) }
         ensures kept { Keeps self.old self.new }
     {
-        let key = JobKey::Variable { level, position: i };
-        if let Some(known) = self.remembered(key) {
+        let key = JobKey::Alone(Alone::Variable { level, position: i });
+        if let Some(known) = self.finished(key) {
             return Ok(known);
         }
         let head = self.variable_grouping(level, i)?;
@@ -222,15 +235,21 @@ impl Pkg {
         requires level { level ≤ 7 }
         requires variable { i < 2 ^ level }
         ensures stands { IfOk result (λ g. Stands self.new.groupings.levels g level (variable_pattern level i)) }
+        ensures below { FinishesBelow self.old self.new level }
         ensures kept { Keeps self.old self.new }
     {
         if level == 0 {
             self.table().law();
             return Ok(FORK);
         }
-        let constant = self.known_constant(level - 1, 0)?.head;
-        self.table().law();
-        let variable = self.known_variable(level - 1, i % half_of(level))?.head;
-        self.variable_over(level, i, BasicGroupings { constant, variable })
+        let constant = self.known_constant(level - 1, 0)?;
+        self.law(constant);
+        let variable = self.known_variable(level - 1, i % half_of(level))?;
+        self.law(variable);
+        let below = BasicGroupings {
+            constant: constant.head,
+            variable: variable.head,
+        };
+        self.variable_over(level, i, below)
     }
 }

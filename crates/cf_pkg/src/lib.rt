@@ -1,6 +1,7 @@
 // Functions with integer values, each of one representative.
 #![tactic(auto)]
 
+mod anew;
 mod basics;
 mod exits;
 mod jobs;
@@ -18,48 +19,53 @@ ghost use Rattle.cf_model.specs.Diagrams.{IsGood};
 ghost use Rattle.cf_model.specs.Functions.{IsFunction};
 ghost use Rattle.cf_model.specs.Renumbering.{AllDiffer};
 ghost use Rattle.cf_table.specs.Groupings.{Owns, exits_of};
-ghost use Rattle.cf_pkg.specs.Packages.{no_function, values_of, OwnsFunction, meaning, Means, Keeps};
+ghost use Rattle.cf_pkg.specs.Tasks as task;
+ghost use Rattle.cf_pkg.specs.Packages.{no_function, values_of, OwnsFunction, IsRemembered, meaning, Means, Keeps};
+ghost use Rattle.cf_pkg.specs.Jobs.{AnswersFinished};
 
 use cf_bits::Bits;
 use cf_table::steps::Steps;
 use cf_table::{Gid, Table};
 use cf_tuple::NoMemory;
 use cf_values::{ValueBook, Vid};
-use indexmap::IndexMap;
 pub use jobs::{Job, OpFault, Recipe};
 pub use least_assignment::{least, level_within, variables};
-use memo::JobKey;
+use memo::Memo;
 pub use reached::Sizes;
 use std::alloc::Global;
 use std::marker::Model;
 use std::sync::ledger::Ledger;
 
 /// A function: a grouping, and the list of the values of its exits.
-#[derive(Clone, Copy, Debug, PartialEq, Eq)]
+#[derive(Clone, Copy, Debug, PartialEq, Eq, Hash)]
 pub struct Func {
     pub head: Gid,
     pub vals: Vid,
 }
 
-/// Functions of levels 0 to 7 with values of 128 bits. Equal functions have one `Func`. Those of
-/// constants and variables are remembered.
+/// Functions of levels 0 to 7 with values of 128 bits. Equal functions have one `Func`. Each finished
+/// job is remembered, so that doing it again takes no memory and adds nothing.
 #[derive(Drop)]
 pub struct Pkg {
     alloc: Global,
     table: Table,
     values: ValueBook,
-    memo: IndexMap<JobKey, Func>,
+    memo: Memo,
 }
 
 impl Model for Pkg {
+    ghost use Rattle.std.specs.Coded.{codes};
+    ghost use Rattle.cf_model.specs.contracts.terms.Term as term;
     ghost use Rattle.cf_pkg.specs.Packages.{Package, package_of};
     ghost use Rattle.cf_pkg.specs.Remembering.{IsSound};
 
     ghost Value = { Package };
 
-    ghost view = { λ pkg. package_of pkg.table pkg.values };
+    ghost coded = { Prim.hlevel (codes, term.the_row.coded) };
 
-    ghost invariant = { λ pkg. IsSound (package_of pkg.table pkg.values) pkg.memo.entries };
+    ghost view = { λ pkg. package_of pkg.table pkg.values pkg.memo };
+
+    ghost invariant = { λ pkg. IsSound (package_of pkg.table pkg.values pkg.memo) };
 }
 
 impl Pkg {
@@ -71,7 +77,7 @@ impl Pkg {
             alloc,
             table: Table::new(alloc)?,
             values: ValueBook::new(alloc),
-            memo: IndexMap::new(alloc),
+            memo: Memo::new(alloc),
         })
     }
 
@@ -125,9 +131,13 @@ impl Pkg {
         requires level { level ≤ 7 }
         ensures level { IfOk result (λ f. f.head.level ≡ level) }
         ensures means { IfOk result (λ f. Means self.new f (tabulated level (λ bits. v))) }
+        ensures remembered { IfOk result (IsRemembered self.new (task.Const level v)) }
+        ensures finished { AnswersFinished self.old self.new (task.Const level v) result }
         ensures kept { Keeps self.old self.new }
     {
-        self.known_constant(level, v)
+        let f = self.known_constant(level, v)?;
+        self.table().law();
+        Ok(f)
     }
 
     /// The function that is bit i, counted from the first, as 0 or 1.
@@ -136,9 +146,13 @@ impl Pkg {
         requires variable { i < 2 ^ level }
         ensures level { IfOk result (λ f. f.head.level ≡ level) }
         ensures means { IfOk result (λ f. Means self.new f (variable level i)) }
+        ensures remembered { IfOk result (IsRemembered self.new (task.Var level i)) }
+        ensures finished { AnswersFinished self.old self.new (task.Var level i) result }
         ensures kept { Keeps self.old self.new }
     {
-        self.known_variable(level, i)
+        let f = self.known_variable(level, i)?;
+        self.table().law();
+        Ok(f)
     }
 
     /// The value of a function at an assignment of its 2^level variables. Each view of a grouping

@@ -3,12 +3,15 @@
 ghost use Rattle.std.specs.Prelude.{◌≡◌, ◌≤◌, ◌+◌, ◌++◌, IfOk};
 ghost use Rattle.cf_build.specs.Assembling.{AddsOnly};
 ghost use Rattle.cf_ops.specs.Operations.{of_one, of_two, of_three, Answers1, Answers2};
-ghost use Rattle.cf_pkg.specs.Packages.{OwnsFunction, Keeps, function_parts};
-ghost use Rattle.cf_pkg.specs.Jobs.{AreLevel, map_value, apply_value, ternary_value, HasValues, IsLeastWithout};
+ghost use Rattle.cf_pkg.specs.Tasks as task;
+ghost use Rattle.cf_pkg.specs.Memos.{IsUndone};
+ghost use Rattle.cf_pkg.specs.Packages.{OwnsFunction, IsRemembered, Keeps, function_parts};
+ghost use Rattle.cf_pkg.specs.Jobs.{AreLevel, map_value, apply_value, ternary_value, HasValues, IsLeastWithout, AnswersFinished};
 ghost use Rattle.cf_pkg.specs.Faults.{IfOverflow};
 ghost use Rattle.cf_pkg.specs.Products.{pair_parts, triple_parts, pair_steps};
 
 use crate::jobs::OpFault;
+use crate::memo::{JobKey, OfOne, OfTwo, Operation};
 use crate::{Func, Pkg};
 use cf_ops::{Op1, Op2, Op3, Term, Word1, Word2, words};
 use cf_table::steps::Steps;
@@ -54,9 +57,12 @@ impl Pkg {
     ) -> Result<Func, OpFault>
         requires answers { Answers1 (F.pre call) (F.post call) (of_one word) }
         requires owned { OwnsFunction self.old f }
+        requires undone { IsUndone self.old.memo (task.Map (of_one word) f) }
         ensures values { IfOk result (λ r. HasValues self.new r f.head.level (map_value self.old (of_one word) f)) }
         ensures overflow { IfOverflow result (IsLeastWithout f.head.level (map_value self.old (of_one word) f)) }
         ensures added { IfOk result (λ r. AddsOnly self.old.groupings.levels self.new.groupings.levels (function_parts self.new r)) }
+        ensures remembered { IfOk result (IsRemembered self.new (task.Map (of_one word) f)) }
+        ensures finished { AnswersFinished self.old self.new (task.Map (of_one word) f) result }
         ensures kept { Keeps self.old self.new }
     {
         let op = Op1::new(tree_of_one(self.alloc, word)?, call);
@@ -74,9 +80,12 @@ impl Pkg {
     ) -> Result<Func, OpFault>
         requires answers { Answers2 (F.pre call) (F.post call) (of_two word) }
         requires level { AreLevel self.old f g }
+        requires undone { IsUndone self.old.memo (task.Apply (of_two word) f g) }
         ensures values { IfOk result (λ r. HasValues self.new r f.head.level (apply_value self.old (of_two word) f g)) }
         ensures overflow { IfOverflow result (IsLeastWithout f.head.level (apply_value self.old (of_two word) f g)) }
         ensures added { IfOk result (λ r. AddsOnly self.old.groupings.levels self.new.groupings.levels (pair_parts self.old f g ++ function_parts self.new r)) }
+        ensures remembered { IfOk result (IsRemembered self.new (task.Apply (of_two word) f g)) }
+        ensures finished { AnswersFinished self.old self.new (task.Apply (of_two word) f g) result }
         ensures kept { Keeps self.old self.new }
         ensures steps { steps.new ≤ steps.old + pair_steps self.old f g }
     {
@@ -91,8 +100,14 @@ impl Pkg {
         ensures values { IfOk result (λ r. HasValues self.new r f.head.level (map_value self.old (of_one word) f)) }
         ensures overflow { IfOverflow result (IsLeastWithout f.head.level (map_value self.old (of_one word) f)) }
         ensures added { IfOk result (λ r. AddsOnly self.old.groupings.levels self.new.groupings.levels (function_parts self.new r)) }
+        ensures remembered { IfOk result (IsRemembered self.new (task.Map (of_one word) f)) }
+        ensures finished { AnswersFinished self.old self.new (task.Map (of_one word) f) result }
         ensures kept { Keeps self.old self.new }
     {
+        let key = JobKey::OfOne(OfOne::Map(Operation::One(word)), f);
+        if let Some(known) = self.finished(key) {
+            return Ok(known);
+        }
         match word {
             Word1::Not => self.map_with(word, words::not, f),
             Word1::Neg => self.map_with(word, words::neg, f),
@@ -112,9 +127,15 @@ impl Pkg {
         ensures values { IfOk result (λ r. HasValues self.new r f.head.level (apply_value self.old (of_two word) f g)) }
         ensures overflow { IfOverflow result (IsLeastWithout f.head.level (apply_value self.old (of_two word) f g)) }
         ensures added { IfOk result (λ r. AddsOnly self.old.groupings.levels self.new.groupings.levels (pair_parts self.old f g ++ function_parts self.new r)) }
+        ensures remembered { IfOk result (IsRemembered self.new (task.Apply (of_two word) f g)) }
+        ensures finished { AnswersFinished self.old self.new (task.Apply (of_two word) f g) result }
         ensures kept { Keeps self.old self.new }
         ensures steps { steps.new ≤ steps.old + pair_steps self.old f g }
     {
+        let key = JobKey::OfTwo(OfTwo::Apply(Operation::Two(word)), f, g);
+        if let Some(known) = self.finished(key) {
+            return Ok(known);
+        }
         match word {
             Word2::And => self.apply_with(word, words::and, f, g, steps),
             Word2::Or => self.apply_with(word, words::or, f, g, steps),
@@ -143,8 +164,14 @@ impl Pkg {
         ensures values { IfOk result (λ r. HasValues self.new r f.head.level (ternary_value self.old of_three f g h)) }
         ensures overflow { IfOverflow result (IsLeastWithout f.head.level (ternary_value self.old of_three f g h)) }
         ensures added { IfOk result (λ r. AddsOnly self.old.groupings.levels self.new.groupings.levels (triple_parts self.old f g h ++ function_parts self.new r)) }
+        ensures remembered { IfOk result (IsRemembered self.new (task.Ternary of_three f g h)) }
+        ensures finished { AnswersFinished self.old self.new (task.Ternary of_three f g h) result }
         ensures kept { Keeps self.old self.new }
     {
+        let key = JobKey::OfThree(Operation::Choice, f, g, h);
+        if let Some(known) = self.finished(key) {
+            return Ok(known);
+        }
         let op = Op3::new(tree_of_three(self.alloc)?, words::ite);
         self.ternary(&op, f, g, h, steps)
     }

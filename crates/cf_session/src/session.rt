@@ -22,9 +22,13 @@ pub struct Session {
 }
 
 impl Model for Session {
+    ghost use Rattle.std.specs.Coded.{codes};
+    ghost use Rattle.cf_model.specs.contracts.terms.Term as term;
     ghost use Rattle.cf_session.specs.Sessions.{Held, IsHeld};
 
     ghost Value = { Held };
+
+    ghost coded = { Prim.hlevel (codes, term.the_row.coded) };
 
     ghost view = { λ s. record { pkg = s.pkg; level = s.level; variables = s.variables; functions = s.functions } };
 

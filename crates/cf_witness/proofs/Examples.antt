@@ -7,6 +7,7 @@ use Rattle.cf_model.specs.Assignments.{all_bits}
 use Rattle.cf_model.specs.Diagrams.{pattern}
 use Rattle.cf_table.specs.Groupings.{only_base}
 use Rattle.cf_pkg.specs.declared.Func.{Func}
+use Rattle.cf_pkg.specs.Memos.{no_job}
 use Rattle.cf_pkg.specs.Packages.{Package, package_of}
 use Rattle.cf_witness.specs.Nexts.{is_marked, has_marked, leads, IsNext}
 use Rattle.cf_witness.specs.Witnesses.{is_value, assignments_of}
@@ -66,7 +67,7 @@ not_before_2 h = omega (arith, h.reached)
 
 -- a bit, and twice the bit
 abbrev two_functions : Package
-two_functions = package_of only_base ((pos 0 ∷ pos 1 ∷ []) ∷ (pos 0 ∷ pos 2 ∷ []) ∷ [])
+two_functions = package_of only_base ((pos 0 ∷ pos 1 ∷ []) ∷ (pos 0 ∷ pos 2 ∷ []) ∷ []) no_job
 
 abbrev bit : Func
 bit = record { head = record { level = 0; at = 1 }; vals = record { at = 0 } }

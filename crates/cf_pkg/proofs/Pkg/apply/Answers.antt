@@ -1,132 +1,143 @@
-use Rattle.std.proofs.Common.{◌≡◌, ℕ, ℤ, List, ◌++◌, map, Some, sym, ◌∙◌, ap, subst}
-use Rattle.std.specs.List.{slice_get, zip}
-use Rattle.cf_model.specs.Functions.{function_of}
-use Rattle.cf_model.specs.Diagrams.{Levels, pattern, IsGood}
-use Rattle.cf_model.specs.declared.terms.Term.{Term}
-use Rattle.cf_table.specs.declared.Gid.{Gid}
-use Rattle.cf_table.specs.Groupings.{pattern_of}
-use Rattle.cf_build.specs.Assembling.{HasCanon, AddsOnly}
-use Rattle.cf_pkg.specs.declared.Func.{Func}
-use Rattle.cf_pkg.specs.declared.jobs.OpFault.{OpFault}
-use Rattle.cf_pkg.specs.Packages.{Package, Means, values_of, function_parts}
-use Rattle.cf_pkg.specs.Products.{pair_parts}
-use Rattle.cf_pkg.specs.Exits.{apply_each, PairsWithin}
-use Rattle.cf_pkg.specs.Jobs.{AreLevel, apply_value}
-use Rattle.cf_pkg.proofs.Valued.{Worked, worked_gives, worked_long, has_values, fault_exit, fault_least, first_of, err_same, values_read}
-use Rattle.cf_pkg.proofs.Works.{apply_worked, pairs_within}
-use Rattle.cf_pkg.proofs.Added.{pair_added}
-use Rattle.cf_pkg.proofs.Remembering.{sound_shown}
+use Rattle.std.proofs.Common.{◌++◌, ◌≤◌, ◌+◌, sym, ap, ◌∙◌, subst, rules}
+use Rattle.cf_table.specs.Groupings.{Groupings}
+use Rattle.cf_build.specs.Assembling.{AddsOnly}
+use Rattle.cf_pkg.specs.Tasks.{Task}
+use Rattle.cf_pkg.specs.Tasks as task
+use Rattle.cf_pkg.specs.Memos.{Remembered, IsTold, task_at, IsUndone}
+use Rattle.cf_pkg.specs.Packages.{Package, package_of, function_parts, IsRemembered, Keeps}
+use Rattle.cf_pkg.specs.Products.{pair_parts, pair_steps}
+use Rattle.cf_pkg.specs.Jobs.{Finishes, HasValues, task_level, task_value}
+use Rattle.cf_pkg.specs.Remembering.{IsDone}
+use Rattle.cf_pkg.proofs.Valued.{Keeps-trans}
+use Rattle.cf_pkg.proofs.Finishing.{level_kept}
+use Rattle.cf_pkg.proofs.Remembering.{with_job, remember_keeps}
+use Rattle.cf_pkg.proofs.Doing.{found_values, found_answers, new_answers, unknown_answers, new_finishes, new_values, new_overflow, new_remembered, adds_none}
 use Rattle.cf_pkg.proofs.Pkg.apply.Goals as goal
 
--- What is known once the pairs of the product and both lists of values were read.
-record Read (p : Package) (f g : Func) (u : Levels) (r : Gid) (pairs : List (ℕ × ℕ)) (vs ws : List ℤ) : Type 0 where
-  good : IsGood p.groupings.levels
-  in_order : AreLevel p f g
-  now_good : IsGood u
-  canon : HasCanon u r f.head.level (zip (pattern_of p.groupings f.head) (pattern_of p.groupings g.head)) pairs
-  left : values_of p f ≡ vs
-  right : values_of p g ≡ ws
-
-within : (p : Package) (f g : Func) (u : Levels) (r : Gid) (pairs : List (ℕ × ℕ)) (vs ws : List ℤ) → Read p f g u r pairs vs ws → PairsWithin vs ws pairs
-within p f g u r pairs vs ws k =
-    subst (λ (xs : List ℤ). PairsWithin xs ws pairs) k.left
-    (subst (λ (xs : List ℤ). PairsWithin (values_of p f) xs pairs) k.right (pairs_within p k.good f g k.in_order (pattern u r.level r.at) pairs k.canon.canon))
-
-worked : (p : Package) (f g : Func) (u : Levels) (r : Gid) (pairs : List (ℕ × ℕ)) (vs ws : List ℤ) → Read p f g u r pairs vs ws → (tree : Term) → Worked u r f.head.level (apply_each tree vs ws pairs) (apply_value p tree f g)
-worked p f g u r pairs vs ws k tree =
-    subst (λ (xs : List ℤ). Worked u r f.head.level (apply_each tree xs ws pairs) (apply_value p tree f g)) k.left
-    (subst (λ (xs : List ℤ). Worked u r f.head.level (apply_each tree (values_of p f) xs pairs) (apply_value p tree f g)) k.right (apply_worked p k.good tree f g k.in_order u k.now_good r pairs k.canon))
-
--- the same from what the code has
-reading : (p inside : Package) (f g : Func) (u : Levels) (r : Gid) (items pairs : List (ℕ × ℕ)) (vs ws : List ℤ) → IsGood p.groupings.levels → AreLevel p f g → IsGood u
-    → HasCanon u r f.head.level (zip (pattern_of inside.groupings f.head) (pattern_of inside.groupings g.head)) items → pairs ≡ items → inside ≡ p
-    → slice_get inside.lists f.vals.at ≡ Some vs → slice_get inside.lists g.vals.at ≡ Some ws → Read p f g u r pairs vs ws
-reading p inside f g u r items pairs vs ws good o good_u c e is l m = record {
-  good = good;
-  in_order = o;
-  now_good = good_u;
-  canon = subst (λ (q : Package). HasCanon u r f.head.level (zip (pattern_of q.groupings f.head) (pattern_of q.groupings g.head)) pairs) is
-      (subst (λ (v : List (ℕ × ℕ)). HasCanon u r f.head.level (zip (pattern_of inside.groupings f.head) (pattern_of inside.groupings g.head)) v) (sym e) c);
-  left = values_read p inside f vs is l;
-  right = values_read p inside g ws is m;
-}
-
-pub apply_exits-requires-clause-within : goal.apply_exits-requires-clause-within
-apply_exits-requires-clause-within g c =
+-- a job that was finished
+pub returns-in-Some-clause-values : goal.returns-in-Some-clause-values
+returns-in-Some-clause-values g c =
     let p = c.args.self.now in
-    let inside : Package = record { groupings = c.self.inside.table; lists = c.self.inside.values } in
-    let u = c.pair.new.table.levels in
-    let read = reading p inside c.args.f c.args.g u c.in_ok-head.head c.in_ok-head.pairs.items c.as_slice.result.now c.get-left.result.now c.get-right.result.now c.law.ensures.good c.requires.level c.in_ok-head.ensures.good
-    c.in_ok-head.ensures.paired c.as_slice.ensures.value c.self.view_is c.get-left.ensures.list c.get-right.ensures.list in
-    within p c.args.f c.args.g u c.in_ok-head.head c.as_slice.result.now c.get-left.result.now c.get-right.result.now read
+    let q = c.key_of.new.self in
+    let t : Task = task.Apply c.args.op.now.tree c.args.f c.args.g in
+    let done : IsDone q t c.in-Some.known = subst (λ (u : Task). IsDone q u c.in-Some.known) c.in_ok-key.ensures.key.is_it c.in-Some.ensures in
+    found_values p q c.in_ok-key.ensures.kept t c.in-Some.known (c.requires.level) done
 
-pub valued-requires-clause-valued : goal.valued-requires-clause-valued
-valued-requires-clause-valued g c =
+pub returns-in-Some-clause-remembered : goal.returns-in-Some-clause-remembered
+returns-in-Some-clause-remembered g c =
+    let q = c.key_of.new.self in
+    subst (λ (u : Task). IsRemembered q u c.in-Some.known) c.in_ok-key.ensures.key.is_it c.in-Some.ensures.there
+
+pub returns-in-Some-clause-finished : goal.returns-in-Some-clause-finished
+returns-in-Some-clause-finished g c =
     let p = c.args.self.now in
-    let inside : Package = record { groupings = c.self.inside.table; lists = c.self.inside.values } in
-    let u = c.pair.new.table.levels in
-    let read = reading p inside c.args.f c.args.g u c.in_ok-head.head c.in_ok-head.pairs.items c.as_slice.result.now c.get-left.result.now c.get-right.result.now c.law.ensures.good c.requires.level c.in_ok-head.ensures.good
-    c.in_ok-head.ensures.paired c.as_slice.ensures.value c.self.view_is c.get-left.ensures.list c.get-right.ensures.list in
-    let w = worked p c.args.f c.args.g u c.in_ok-head.head c.as_slice.result.now c.get-left.result.now c.get-right.result.now read c.args.op.now.tree in
-    worked_long u c.in_ok-head.head c.args.f.head.level (apply_each c.args.op.now.tree c.get-left.result.now c.get-right.result.now c.as_slice.result.now) (apply_value p c.args.op.now.tree c.args.f c.args.g) w
-    c.as_slice-in-Ok.result.now (ap (map Some) c.as_slice-in-Ok.ensures.value ∙ c.in-Ok.ensures.values)
+    let q = c.key_of.new.self in
+    let t : Task = task.Apply c.args.op.now.tree c.args.f c.args.g in
+    let done : IsDone q t c.in-Some.known = subst (λ (u : Task). IsDone q u c.in-Some.known) c.in_ok-key.ensures.key.is_it c.in-Some.ensures in
+    found_answers p q c.in_ok-key.ensures.kept t c.in-Some.known done c.in_ok-key.ensures.known
 
-pub returns-in-Ok-clause-values : goal.returns-in-Ok-clause-values
-returns-in-Ok-clause-values g c =
+pub returns-in-Some-clause-added : goal.returns-in-Some-clause-added
+returns-in-Some-clause-added g c = adds_none c.args.self.now.groupings c.key_of.new.self.groupings c.in_ok-key.ensures.groupings (pair_parts c.args.self.now c.args.f c.args.g ++ function_parts c.key_of.new.self c.in-Some.known)
+
+-- no key, and so no finished job
+pub returns-in_err-key-clause-finished : goal.returns-in_err-key-clause-finished
+returns-in_err-key-clause-finished g c = unknown_answers c.args.self.now c.key_of.new.self (task.Apply c.args.op.now.tree c.args.f c.args.g) c.key_of.result _ c.in_err-key.was c.key_of.ensures.answers _
+
+-- a job that wasn't finished
+pub apply_anew-requires-clause-level : goal.apply_anew-requires-clause-level
+apply_anew-requires-clause-level g c = level_kept c.args.self.now c.key_of.new.self c.in_ok-key.ensures.kept c.args.f c.args.g c.requires.level
+
+pub remember-requires-clause-told : goal.remember-requires-clause-told
+remember-requires-clause-told g c =
+    subst (λ (m : Remembered). IsTold m.trees c.in_ok-key.key) (sym c.in_ok-made.ensures.memo) c.in_ok-key.ensures.key.told
+
+pub remember-requires-clause-undone : goal.remember-requires-clause-undone
+remember-requires-clause-undone g c =
+    subst (λ (m : Remembered). IsUndone m (task_at m.trees c.in_ok-key.key)) (sym c.in_ok-made.ensures.memo) c.in_default.ensures
+
+pub remember-requires-clause-is_it : goal.remember-requires-clause-is_it
+remember-requires-clause-is_it g c =
     let p = c.args.self.now in
-    let inside : Package = record { groupings = c.self.inside.table; lists = c.self.inside.values } in
-    let u = c.pair.new.table.levels in
-    let read = reading p inside c.args.f c.args.g u c.in_ok-head.head c.in_ok-head.pairs.items c.as_slice.result.now c.get-left.result.now c.get-right.result.now c.law.ensures.good c.requires.level c.in_ok-head.ensures.good
-    c.in_ok-head.ensures.paired c.as_slice.ensures.value c.self.view_is c.get-left.ensures.list c.get-right.ensures.list in
-    let w = worked p c.args.f c.args.g u c.in_ok-head.head c.as_slice.result.now c.get-left.result.now c.get-right.result.now read c.args.op.now.tree in
-    let made : Means c.valued.new.self c.in_ok-valued-in-Ok.field-0 (function_of u c.in_ok-head.head.level c.in_ok-head.head.at c.as_slice-in-Ok.result.now) = c.in_ok-valued-in-Ok.ensures.means in
-    has_values u c.valued.new.self c.in_ok-head.head c.in_ok-valued-in-Ok.field-0 c.as_slice-in-Ok.result.now c.args.f.head.level (apply_value p c.args.op.now.tree c.args.f c.args.g)
-    (worked_gives u c.in_ok-head.head c.args.f.head.level (apply_each c.args.op.now.tree c.get-left.result.now c.get-right.result.now c.as_slice.result.now) (apply_value p c.args.op.now.tree c.args.f c.args.g) w
-    c.as_slice-in-Ok.result.now (ap (map Some) c.as_slice-in-Ok.ensures.value ∙ c.in-Ok.ensures.values))
-    made
+    let q = c.key_of.new.self in
+    let r = c.apply_anew.new.self in
+    let t : Task = task.Apply c.args.op.now.tree c.args.f c.args.g in
+    subst (λ (u : Task). Finishes r u c.in_ok-made.made) (sym (ap (λ (m : Remembered). task_at m.trees c.in_ok-key.key) c.in_ok-made.ensures.memo ∙ c.in_ok-key.ensures.key.is_it))
+    (new_finishes q r c.in_ok-made.ensures.kept t c.in_ok-made.made (level_kept c.args.self.now c.key_of.new.self c.in_ok-key.ensures.kept c.args.f c.args.g c.requires.level) c.in_ok-made.ensures.values)
 
-pub returns-in-Ok-clause-added : goal.returns-in-Ok-clause-added
-returns-in-Ok-clause-added g c =
+pub returns-in_err-made-clause-overflow : goal.returns-in_err-made-clause-overflow
+returns-in_err-made-clause-overflow g c =
     let p = c.args.self.now in
-    let inside : Package = record { groupings = c.self.inside.table; lists = c.self.inside.values } in
-    let f = c.args.f in
-    let h = c.args.g in
-    let q = c.valued.new.self in
-    let u = c.pair.new.table.levels in
-    let answer = c.in_ok-valued-in-Ok in
-    subst (λ (b : Package). AddsOnly b.groupings.levels q.groupings.levels (pair_parts b f h ++ function_parts q answer.field-0)) c.self.view_is
-    (pair_added inside q f h u c.in_ok-head.head c.in_ok-head.pairs.items answer.field-0 c.in_ok-head.ensures.good answer.ensures.kept.groupings c.in_ok-head.ensures.paired c.in_ok-head.ensures.added answer.ensures.added)
+    let q = c.key_of.new.self in
+    let t : Task = task.Apply c.args.op.now.tree c.args.f c.args.g in
+    let fact = new_overflow p q c.in_ok-key.ensures.kept t (c.requires.level) c.apply_anew.result c.apply_anew.ensures.overflow in
+    search (rules, fact)
 
-pub overflow-requires-clause-exit : goal.overflow-requires-clause-exit
-overflow-requires-clause-exit g c =
+pub returns-in_err-made-clause-finished : goal.returns-in_err-made-clause-finished
+returns-in_err-made-clause-finished g c =
+    let q = c.key_of.new.self in
+    new_answers c.args.self.now q c.apply_anew.new.self c.in_ok-key.ensures.kept (task.Apply c.args.op.now.tree c.args.f c.args.g) (subst (λ (u : Task). IsUndone q.memo u) c.in_ok-key.ensures.key.is_it c.in_default.ensures) _
+
+pub returns-in_err-made-clause-kept : goal.returns-in_err-made-clause-kept
+returns-in_err-made-clause-kept g c = Keeps-trans c.args.self.now c.key_of.new.self c.apply_anew.new.self c.in_ok-key.ensures.kept c.apply_anew.ensures.kept
+
+pub returns-in_err-remember-clause-finished : goal.returns-in_err-remember-clause-finished
+returns-in_err-remember-clause-finished g c =
+    let q = c.key_of.new.self in
+    new_answers c.args.self.now q c.remember.new.self c.in_ok-key.ensures.kept (task.Apply c.args.op.now.tree c.args.f c.args.g) (subst (λ (u : Task). IsUndone q.memo u) c.in_ok-key.ensures.key.is_it c.in_default.ensures) _
+
+pub returns-in_err-remember-clause-kept : goal.returns-in_err-remember-clause-kept
+returns-in_err-remember-clause-kept g c =
+    subst (λ (x : Package). Keeps c.args.self.now x) (sym c.in_err-remember.ensures.no_memory)
+    (Keeps-trans c.args.self.now c.key_of.new.self c.apply_anew.new.self c.in_ok-key.ensures.kept c.apply_anew.ensures.kept)
+
+pub returns-clause-values : goal.returns-clause-values
+returns-clause-values g c =
     let p = c.args.self.now in
-    let inside : Package = record { groupings = c.self.inside.table; lists = c.self.inside.values } in
-    let u = c.pair.new.table.levels in
-    let read = reading p inside c.args.f c.args.g u c.in_ok-head.head c.in_ok-head.pairs.items c.as_slice.result.now c.get-left.result.now c.get-right.result.now c.law.ensures.good c.requires.level c.in_ok-head.ensures.good
-    c.in_ok-head.ensures.paired c.as_slice.ensures.value c.self.view_is c.get-left.ensures.list c.get-right.ensures.list in
-    let w = worked p c.args.f c.args.g u c.in_ok-head.head c.as_slice.result.now c.get-left.result.now c.get-right.result.now read c.args.op.now.tree in
-    let words = apply_each c.args.op.now.tree c.get-left.result.now c.get-right.result.now c.as_slice.result.now in
-    fault_exit u c.in_ok-head.head c.args.f.head.level words (apply_value p c.args.op.now.tree c.args.f c.args.g) w c.in-Err.fault
-    (first_of c.apply_exits.result words c.in-Err.fault c.in-Err.is c.apply_exits.ensures.first)
+    let q = c.key_of.new.self in
+    let r = c.apply_anew.new.self in
+    let t : Task = task.Apply c.args.op.now.tree c.args.f c.args.g in
+    subst (λ (x : Package). HasValues x c.in_ok-made.made (task_level t) (task_value p t)) (sym c.in_ok-remember.ensures.remembered)
+    (new_values p q r c.in_ok-key.ensures.kept t c.in_ok-made.made c.in_ok-key.key (c.requires.level) c.in_ok-made.ensures.values)
 
-pub returns-clause-overflow : goal.returns-clause-overflow
-returns-clause-overflow g c at e =
+pub returns-clause-added : goal.returns-clause-added
+returns-clause-added g c =
     let p = c.args.self.now in
-    let inside : Package = record { groupings = c.self.inside.table; lists = c.self.inside.values } in
-    let u = c.pair.new.table.levels in
-    let read = reading p inside c.args.f c.args.g u c.in_ok-head.head c.in_ok-head.pairs.items c.as_slice.result.now c.get-left.result.now c.get-right.result.now c.law.ensures.good c.requires.level c.in_ok-head.ensures.good
-    c.in_ok-head.ensures.paired c.as_slice.ensures.value c.self.view_is c.get-left.ensures.list c.get-right.ensures.list in
-    let w = worked p c.args.f c.args.g u c.in_ok-head.head c.as_slice.result.now c.get-left.result.now c.get-right.result.now read c.args.op.now.tree in
-    let words = apply_each c.args.op.now.tree c.get-left.result.now c.get-right.result.now c.as_slice.result.now in
-    fault_least u c.in_ok-head.head c.args.f.head.level words (apply_value p c.args.op.now.tree c.args.f c.args.g) w c.in-Err.fault
-    (first_of c.apply_exits.result words c.in-Err.fault c.in-Err.is c.apply_exits.ensures.first)
-    c.overflow.result c.overflow.ensures at (err_same c.overflow.result (OpFault.Overflow at) e)
+    let q = c.key_of.new.self in
+    let r = c.apply_anew.new.self in
+    let made = c.in_ok-made.made in
+    subst (λ (x : Package). AddsOnly p.groupings.levels x.groupings.levels (pair_parts p c.args.f c.args.g ++ function_parts x made)) (sym c.in_ok-remember.ensures.remembered)
+    (subst (λ (t : Groupings). AddsOnly t.levels r.groupings.levels (pair_parts (package_of t q.lists q.memo) c.args.f c.args.g ++ function_parts r made)) c.in_ok-key.ensures.groupings c.in_ok-made.ensures.added)
 
-pub invariant_of-self : goal.invariant_of-self
-invariant_of-self g c = sound_shown c.args.self.now c.self.inside.table c.pair.new.table c.self.inside.values c.self.inside.memo.entries c.self.view_is c.law.ensures.good c.in_err-head.ensures.kept c.in_err-head.ensures.tuples c.self.invariant
+pub returns-clause-remembered : goal.returns-clause-remembered
+returns-clause-remembered g c =
+    let r = c.apply_anew.new.self in
+    let t : Task = task.Apply c.args.op.now.tree c.args.f c.args.g in
+    subst (λ (x : Package). IsRemembered x t c.in_ok-made.made) (sym c.in_ok-remember.ensures.remembered)
+    (new_remembered r c.in_ok-key.key t c.in_ok-made.made (ap (λ (m : Remembered). task_at m.trees c.in_ok-key.key) c.in_ok-made.ensures.memo ∙ c.in_ok-key.ensures.key.is_it))
 
-pub invariant_of-self-in-Ok : goal.invariant_of-self-in-Ok
-invariant_of-self-in-Ok g c = sound_shown c.args.self.now c.self.inside.table c.pair.new.table c.self.inside.values c.self.inside.memo.entries c.self.view_is c.law.ensures.good c.in_ok-head.ensures.kept c.in_ok-head.ensures.tuples c.self.invariant
+pub returns-clause-finished : goal.returns-clause-finished
+returns-clause-finished g c =
+    let q = c.key_of.new.self in
+    new_answers c.args.self.now q c.remember.new.self c.in_ok-key.ensures.kept (task.Apply c.args.op.now.tree c.args.f c.args.g) (subst (λ (u : Task). IsUndone q.memo u) c.in_ok-key.ensures.key.is_it c.in_default.ensures) _
 
-pub invariant_of-self-in-Err : goal.invariant_of-self-in-Err
-invariant_of-self-in-Err g c = sound_shown c.args.self.now c.self.inside.table c.pair.new.table c.self.inside.values c.self.inside.memo.entries c.self.view_is c.law.ensures.good c.in_ok-head.ensures.kept c.in_ok-head.ensures.tuples c.self.invariant
+pub returns-clause-kept : goal.returns-clause-kept
+returns-clause-kept g c =
+    let p = c.args.self.now in
+    let r = c.apply_anew.new.self in
+    subst (λ (x : Package). Keeps p x) (sym c.in_ok-remember.ensures.remembered)
+    (Keeps-trans p r (with_job r c.in_ok-key.key c.in_ok-made.made) (Keeps-trans p c.key_of.new.self r c.in_ok-key.ensures.kept c.apply_anew.ensures.kept) (remember_keeps r c.in_ok-key.key c.in_ok-made.made))
+
+pub returns-clause-steps : goal.returns-clause-steps
+returns-clause-steps g c =
+    let q = c.key_of.new.self in
+    subst (λ (t : Groupings). c.apply_anew.new.steps ≤ c.args.steps.now + pair_steps (package_of t q.lists q.memo) c.args.f c.args.g) c.in_ok-key.ensures.groupings c.apply_anew.ensures.steps
+
+pub returns-in_err-made-clause-steps : goal.returns-in_err-made-clause-steps
+returns-in_err-made-clause-steps g c =
+    let q = c.key_of.new.self in
+    subst (λ (t : Groupings). c.apply_anew.new.steps ≤ c.args.steps.now + pair_steps (package_of t q.lists q.memo) c.args.f c.args.g) c.in_ok-key.ensures.groupings c.apply_anew.ensures.steps
+
+pub returns-in_err-remember-clause-steps : goal.returns-in_err-remember-clause-steps
+returns-in_err-remember-clause-steps g c =
+    let q = c.key_of.new.self in
+    subst (λ (t : Groupings). c.apply_anew.new.steps ≤ c.args.steps.now + pair_steps (package_of t q.lists q.memo) c.args.f c.args.g) c.in_ok-key.ensures.groupings c.apply_anew.ensures.steps

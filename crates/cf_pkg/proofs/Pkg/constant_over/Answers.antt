@@ -6,10 +6,10 @@ use Rattle.cf_pkg.proofs.Remembering.{sound_above}
 use Rattle.cf_pkg.proofs.Pkg.constant_over.Goals as goal
 
 pub invariant_of-self : goal.invariant_of-self
-invariant_of-self c = sound_above c.self.inside.table c.constant_above.new.table c.self.inside.values c.self.inside.memo.entries c.law.ensures.good c.constant_above.ensures.extends c.constant_above.ensures.longer c.self.invariant
+invariant_of-self c = sound_above c.self.inside.table c.constant_above.new.table c.self.inside.values c.self.inside.memo c.law.ensures.good c.constant_above.ensures.extends c.constant_above.ensures.longer c.self.invariant
 
 pub returns-clause-kept : goal.returns-clause-kept
 returns-clause-kept c =
-    let before : Package = record { groupings = c.self.inside.table; lists = c.self.inside.values } in
-    let now : Package = record { groupings = c.constant_above.new.table; lists = c.self.inside.values } in
-    subst (λ (p : Package). Keeps p now) c.self.view_is (keeps before now c.law.ensures.good c.constant_above.ensures.extends c.constant_above.ensures.longer (Lengthens-same c.self.inside.values c.self.inside.values refl))
+    let before : Package = record { groupings = c.self.inside.table; lists = c.self.inside.values; memo = c.self.inside.memo } in
+    let now : Package = record { groupings = c.constant_above.new.table; lists = c.self.inside.values; memo = c.self.inside.memo } in
+    subst (λ (p : Package). Keeps p now) c.self.view_is (keeps before now c.law.ensures.good c.constant_above.ensures.extends c.constant_above.ensures.longer (Lengthens-same c.self.inside.values c.self.inside.values refl) refl)

@@ -1,52 +1,131 @@
-use Rattle.std.proofs.Common.{ℤ, List, refl, subst}
-use Rattle.cf_model.specs.Functions.{function_of}
-use Rattle.cf_values.proofs.BookLaws.{Lengthens-same}
+use Rattle.std.proofs.Common.{List, sym, ap, ◌∙◌, subst, rules, Bool, Option, ℤ, pos, [], ◌∷◌}
+use Rattle.cf_table.specs.Groupings.{Groupings}
 use Rattle.cf_build.specs.Assembling.{AddsOnly}
-use Rattle.cf_pkg.specs.Packages.{Package, Means, Keeps}
-use Rattle.cf_pkg.specs.Jobs.{job_level, job_value, job_parts, HasValues}
-use Rattle.cf_pkg.proofs.Keeping.{keeps}
-use Rattle.cf_pkg.proofs.Valued.{Keeps-trans, has_values}
-use Rattle.cf_pkg.proofs.Making.{made_added}
-use Rattle.cf_pkg.proofs.Remembering.{sound_above}
+use Rattle.cf_pkg.specs.Tasks.{Task}
+use Rattle.cf_pkg.specs.Memos.{Remembered, IsTold, task_at, IsUndone}
+use Rattle.cf_pkg.specs.Packages.{Package, IsRemembered, Keeps}
+use Rattle.std.specs.Prelude.{unwrap_or}
+use Rattle.cf_model.specs.FlatFunctions.{tabulated}
+use Rattle.cf_model.specs.Patterns.{Pattern, subs, pattern_of as flat_pattern}
+use Rattle.cf_pkg.specs.Jobs.{task_of, job_level, job_parts, Finishes, HasValues, task_level, task_value}
+use Rattle.cf_pkg.specs.Remembering.{IsDone}
+use Rattle.cf_pkg.proofs.Valued.{Keeps-trans}
+use Rattle.cf_pkg.proofs.Finishing.{in_order_kept, task_value_kept}
+use Rattle.cf_pkg.proofs.Remembering.{with_job, remember_keeps}
+use Rattle.cf_pkg.proofs.Doing.{found_values, found_answers, new_answers, unknown_answers, new_finishes, new_values, new_overflow, new_remembered, adds_none}
 use Rattle.cf_pkg.proofs.Pkg.make.Goals as goal
 
-pub returns-in_err-g-clause-kept : goal.returns-in_err-g-clause-kept
-returns-in_err-g-clause-kept g c =
-    let before : Package = record { groupings = c.self.inside.table; lists = c.self.inside.values } in
-    let now : Package = record { groupings = c.cook.new.table; lists = c.self.inside.values } in
-    subst (λ (p : Package). Keeps p now) c.self.view_is (keeps before now c.law.ensures.good c.cook.ensures.kept c.cook.ensures.tuples (Lengthens-same before.lists before.lists refl))
+-- a job that was finished
+pub returns-in-Some-clause-values : goal.returns-in-Some-clause-values
+returns-in-Some-clause-values g c =
+    let p = c.args.self.now in
+    let q = c.key_of.new.self in
+    let t : Task = task_of c.args.job in
+    let done : IsDone q t c.in-Some.known = subst (λ (u : Task). IsDone q u c.in-Some.known) c.in_ok-key.ensures.key.is_it c.in-Some.ensures in
+    found_values p q c.in_ok-key.ensures.kept t c.in-Some.known (c.requires.in_order) done
 
-pub returns-in_err-f-clause-kept : goal.returns-in_err-f-clause-kept
-returns-in_err-f-clause-kept g c =
-    let before : Package = record { groupings = c.self.inside.table; lists = c.self.inside.values } in
-    let now : Package = record { groupings = c.cook.new.table; lists = c.self.inside.values } in
-    subst (λ (p : Package). Keeps p c.valued.new.self) c.self.view_is
-    (Keeps-trans before now c.valued.new.self (keeps before now c.law.ensures.good c.cook.ensures.kept c.cook.ensures.tuples (Lengthens-same before.lists before.lists refl)) c.valued.ensures.kept)
+pub returns-in-Some-clause-remembered : goal.returns-in-Some-clause-remembered
+returns-in-Some-clause-remembered g c =
+    let q = c.key_of.new.self in
+    subst (λ (u : Task). IsRemembered q u c.in-Some.known) c.in_ok-key.ensures.key.is_it c.in-Some.ensures.there
 
-pub returns-clause-kept : goal.returns-clause-kept
-returns-clause-kept g c =
-    let before : Package = record { groupings = c.self.inside.table; lists = c.self.inside.values } in
-    let now : Package = record { groupings = c.cook.new.table; lists = c.self.inside.values } in
-    subst (λ (p : Package). Keeps p c.valued.new.self) c.self.view_is
-    (Keeps-trans before now c.valued.new.self (keeps before now c.law.ensures.good c.cook.ensures.kept c.cook.ensures.tuples (Lengthens-same before.lists before.lists refl)) c.valued.ensures.kept)
+pub returns-in-Some-clause-finished : goal.returns-in-Some-clause-finished
+returns-in-Some-clause-finished g c =
+    let p = c.args.self.now in
+    let q = c.key_of.new.self in
+    let t : Task = task_of c.args.job in
+    let done : IsDone q t c.in-Some.known = subst (λ (u : Task). IsDone q u c.in-Some.known) c.in_ok-key.ensures.key.is_it c.in-Some.ensures in
+    found_answers p q c.in_ok-key.ensures.kept t c.in-Some.known done c.in_ok-key.ensures.known
+
+pub returns-in-Some-clause-restricted : goal.returns-in-Some-clause-restricted
+returns-in-Some-clause-restricted g c is = adds_none c.args.self.now.groupings c.key_of.new.self.groupings c.in_ok-key.ensures.groupings (job_parts c.args.self.now c.args.job)
+
+-- no key, and so no finished job
+pub returns-in_err-key-clause-finished : goal.returns-in_err-key-clause-finished
+returns-in_err-key-clause-finished g c = unknown_answers c.args.self.now c.key_of.new.self (task_of c.args.job) c.key_of.result _ c.in_err-key.was c.key_of.ensures.answers _
+
+-- a job that wasn't finished
+pub make_anew-requires-clause-in_order : goal.make_anew-requires-clause-in_order
+make_anew-requires-clause-in_order g c = in_order_kept c.args.self.now c.key_of.new.self c.in_ok-key.ensures.kept (task_of c.args.job) c.requires.in_order
+
+pub remember-requires-clause-told : goal.remember-requires-clause-told
+remember-requires-clause-told g c =
+    subst (λ (m : Remembered). IsTold m.trees c.in_ok-key.key) (sym c.in_ok-made.ensures.memo) c.in_ok-key.ensures.key.told
+
+pub remember-requires-clause-undone : goal.remember-requires-clause-undone
+remember-requires-clause-undone g c =
+    subst (λ (m : Remembered). IsUndone m (task_at m.trees c.in_ok-key.key)) (sym c.in_ok-made.ensures.memo) c.in_default.ensures
+
+pub remember-requires-clause-is_it : goal.remember-requires-clause-is_it
+remember-requires-clause-is_it g c =
+    let p = c.args.self.now in
+    let q = c.key_of.new.self in
+    let r = c.make_anew.new.self in
+    let t : Task = task_of c.args.job in
+    subst (λ (u : Task). Finishes r u c.in_ok-made.made) (sym (ap (λ (m : Remembered). task_at m.trees c.in_ok-key.key) c.in_ok-made.ensures.memo ∙ c.in_ok-key.ensures.key.is_it))
+    (new_finishes q r c.in_ok-made.ensures.kept t c.in_ok-made.made (in_order_kept c.args.self.now c.key_of.new.self c.in_ok-key.ensures.kept (task_of c.args.job) c.requires.in_order) c.in_ok-made.ensures.values)
+
+pub returns-in_err-made-clause-overflow : goal.returns-in_err-made-clause-overflow
+returns-in_err-made-clause-overflow g c =
+    let p = c.args.self.now in
+    let q = c.key_of.new.self in
+    let t : Task = task_of c.args.job in
+    let fact = new_overflow p q c.in_ok-key.ensures.kept t (c.requires.in_order) c.make_anew.result c.make_anew.ensures.overflow in
+    search (rules, fact)
+
+pub returns-in_err-made-clause-finished : goal.returns-in_err-made-clause-finished
+returns-in_err-made-clause-finished g c =
+    let q = c.key_of.new.self in
+    new_answers c.args.self.now q c.make_anew.new.self c.in_ok-key.ensures.kept (task_of c.args.job) (subst (λ (u : Task). IsUndone q.memo u) c.in_ok-key.ensures.key.is_it c.in_default.ensures) _
+
+pub returns-in_err-made-clause-kept : goal.returns-in_err-made-clause-kept
+returns-in_err-made-clause-kept g c = Keeps-trans c.args.self.now c.key_of.new.self c.make_anew.new.self c.in_ok-key.ensures.kept c.make_anew.ensures.kept
+
+pub returns-in_err-remember-clause-finished : goal.returns-in_err-remember-clause-finished
+returns-in_err-remember-clause-finished g c =
+    let q = c.key_of.new.self in
+    new_answers c.args.self.now q c.remember.new.self c.in_ok-key.ensures.kept (task_of c.args.job) (subst (λ (u : Task). IsUndone q.memo u) c.in_ok-key.ensures.key.is_it c.in_default.ensures) _
+
+pub returns-in_err-remember-clause-kept : goal.returns-in_err-remember-clause-kept
+returns-in_err-remember-clause-kept g c =
+    subst (λ (x : Package). Keeps c.args.self.now x) (sym c.in_err-remember.ensures.no_memory)
+    (Keeps-trans c.args.self.now c.key_of.new.self c.make_anew.new.self c.in_ok-key.ensures.kept c.make_anew.ensures.kept)
+
+pub returns-clause-values : goal.returns-clause-values
+returns-clause-values g c =
+    let p = c.args.self.now in
+    let q = c.key_of.new.self in
+    let r = c.make_anew.new.self in
+    let t : Task = task_of c.args.job in
+    subst (λ (x : Package). HasValues x c.in_ok-made.made (task_level t) (task_value p t)) (sym c.in_ok-remember.ensures.remembered)
+    (new_values p q r c.in_ok-key.ensures.kept t c.in_ok-made.made c.in_ok-key.key (c.requires.in_order) c.in_ok-made.ensures.values)
 
 pub returns-clause-restricted : goal.returns-clause-restricted
 returns-clause-restricted g c is =
-    let before : Package = record { groupings = c.self.inside.table; lists = c.self.inside.values } in
-    let q = c.valued.new.self in
-    let u = c.cook.new.table.levels in
-    let f = c.in_ok-f.f in
+    let p = c.args.self.now in
+    let q = c.key_of.new.self in
+    let r = c.make_anew.new.self in
     let job = c.args.job in
-    let means : Means q f (function_of u c.in_ok-g.g.level c.in_ok-g.g.at c.in_ok-g.values.items)
-    = subst (λ (v : List ℤ). Means q f (function_of u c.in_ok-g.g.level c.in_ok-g.g.at v)) c.as_slice.ensures.value c.in_ok-f.ensures.means in
-    let has : HasValues q f (job_level job) (job_value before job)
-    = has_values u q c.in_ok-g.g f c.in_ok-g.values.items (job_level job) (job_value before job) c.in_ok-g.ensures.value means in
-    subst (λ (p : Package). AddsOnly p.groupings.levels q.groupings.levels (job_parts p job)) c.self.view_is
-    (made_added before.groupings.levels u c.in_ok-g.ensures.good q c.in_ok-f.ensures.kept.groupings c.law-2.ensures.good f c.law-2.ensures.function (job_level job) (job_value before job) has
-    (c.in_ok-g.ensures.restricted is) c.in_ok-f.ensures.added)
+    let parts : (List Bool → Option ℤ) → List Pattern = λ v. subs (flat_pattern (tabulated (job_level job) (λ bits. unwrap_or (v bits) (pos 0))) ∷ []) in
+    subst (λ (x : Package). AddsOnly p.groupings.levels x.groupings.levels (job_parts p job)) (sym c.in_ok-remember.ensures.remembered)
+    (subst (λ (v : List Bool → Option ℤ). AddsOnly p.groupings.levels r.groupings.levels (parts v)) (task_value_kept p q c.in_ok-key.ensures.kept (task_of job) c.requires.in_order)
+    (subst (λ (t : Groupings). AddsOnly t.levels r.groupings.levels (job_parts q job)) c.in_ok-key.ensures.groupings (c.in_ok-made.ensures.restricted is)))
 
-pub invariant_of-self : goal.invariant_of-self
-invariant_of-self g c = sound_above c.self.inside.table c.cook.new.table c.self.inside.values c.self.inside.memo.entries c.law.ensures.good c.cook.ensures.kept c.cook.ensures.tuples c.self.invariant
+pub returns-clause-remembered : goal.returns-clause-remembered
+returns-clause-remembered g c =
+    let r = c.make_anew.new.self in
+    let t : Task = task_of c.args.job in
+    subst (λ (x : Package). IsRemembered x t c.in_ok-made.made) (sym c.in_ok-remember.ensures.remembered)
+    (new_remembered r c.in_ok-key.key t c.in_ok-made.made (ap (λ (m : Remembered). task_at m.trees c.in_ok-key.key) c.in_ok-made.ensures.memo ∙ c.in_ok-key.ensures.key.is_it))
 
-pub invariant_of-self-2 : goal.invariant_of-self-2
-invariant_of-self-2 g c = sound_above c.self.inside.table c.cook.new.table c.self.inside.values c.self.inside.memo.entries c.law.ensures.good c.cook.ensures.kept c.cook.ensures.tuples c.self.invariant
+pub returns-clause-finished : goal.returns-clause-finished
+returns-clause-finished g c =
+    let q = c.key_of.new.self in
+    new_answers c.args.self.now q c.remember.new.self c.in_ok-key.ensures.kept (task_of c.args.job) (subst (λ (u : Task). IsUndone q.memo u) c.in_ok-key.ensures.key.is_it c.in_default.ensures) _
+
+pub returns-clause-kept : goal.returns-clause-kept
+returns-clause-kept g c =
+    let p = c.args.self.now in
+    let r = c.make_anew.new.self in
+    subst (λ (x : Package). Keeps p x) (sym c.in_ok-remember.ensures.remembered)
+    (Keeps-trans p r (with_job r c.in_ok-key.key c.in_ok-made.made) (Keeps-trans p c.key_of.new.self r c.in_ok-key.ensures.kept c.make_anew.ensures.kept) (remember_keeps r c.in_ok-key.key c.in_ok-made.made))

@@ -1,51 +1,127 @@
-use Rattle.std.proofs.Common.{◌≡◌, ℤ, List, map, Some, ◌∙◌, ap, subst}
-use Rattle.cf_model.specs.Functions.{function_of}
-use Rattle.cf_model.specs.Diagrams.{IsGood}
-use Rattle.cf_model.specs.declared.terms.Term.{Term}
-use Rattle.cf_pkg.specs.declared.Func.{Func}
-use Rattle.cf_pkg.specs.declared.jobs.OpFault.{OpFault}
-use Rattle.cf_pkg.specs.Packages.{Package, OwnsFunction, Means, values_of}
-use Rattle.cf_pkg.specs.Exits.{map_each}
-use Rattle.cf_pkg.specs.Jobs.{map_value}
-use Rattle.cf_pkg.proofs.Valued.{Worked, worked_gives, has_values, fault_exit, fault_least, first_of, err_same, values_read}
-use Rattle.cf_pkg.proofs.Works.{map_worked}
+use Rattle.std.proofs.Common.{sym, ap, ◌∙◌, subst, rules}
+use Rattle.cf_table.specs.Groupings.{Groupings}
+use Rattle.cf_build.specs.Assembling.{AddsOnly}
+use Rattle.cf_pkg.specs.Tasks.{Task}
+use Rattle.cf_pkg.specs.Tasks as task
+use Rattle.cf_pkg.specs.Memos.{Remembered, IsTold, task_at, IsUndone}
+use Rattle.cf_pkg.specs.Packages.{Package, function_parts, IsRemembered, Keeps}
+use Rattle.cf_pkg.specs.Jobs.{Finishes, HasValues, task_level, task_value}
+use Rattle.cf_pkg.specs.Remembering.{IsDone}
+use Rattle.cf_pkg.proofs.Valued.{Keeps-trans}
+use Rattle.cf_pkg.proofs.Finishing.{owned_kept}
+use Rattle.cf_pkg.proofs.Remembering.{with_job, remember_keeps}
+use Rattle.cf_pkg.proofs.Doing.{found_values, found_answers, new_answers, unknown_answers, new_finishes, new_values, new_overflow, new_remembered, adds_none}
 use Rattle.cf_pkg.proofs.Pkg.map1.Goals as goal
 
-worked_at : (p : Package) → IsGood p.groupings.levels → (tree : Term) (f : Func) → OwnsFunction p f → (vs : List ℤ) → values_of p f ≡ vs → Worked p.groupings.levels f.head f.head.level (map_each tree vs) (map_value p tree f)
-worked_at p good tree f o vs e = subst (λ (ws : List ℤ). Worked p.groupings.levels f.head f.head.level (map_each tree ws) (map_value p tree f)) e (map_worked p good tree f o)
-
-pub overflow-requires-clause-exit : goal.overflow-requires-clause-exit
-overflow-requires-clause-exit g c =
+-- a job that was finished
+pub returns-in-Some-clause-values : goal.returns-in-Some-clause-values
+returns-in-Some-clause-values g c =
     let p = c.args.self.now in
-    let f = c.args.f in
-    let tree = c.args.op.now.tree in
-    let vs = c.get.result.now in
-    let inside : Package = record { groupings = c.self.inside.table; lists = c.self.inside.values } in
-    let worked = worked_at p c.law.ensures.good tree f c.requires.owned vs (values_read p inside f vs c.self.view_is c.get.ensures.list) in
-    fault_exit p.groupings.levels f.head f.head.level (map_each tree vs) (map_value p tree f) worked c.in-Err.fault
-    (first_of c.map_exits.result (map_each tree vs) c.in-Err.fault c.in-Err.is c.map_exits.ensures.first)
+    let q = c.key_of.new.self in
+    let t : Task = task.Map c.args.op.now.tree c.args.f in
+    let done : IsDone q t c.in-Some.known = subst (λ (u : Task). IsDone q u c.in-Some.known) c.in_ok-key.ensures.key.is_it c.in-Some.ensures in
+    found_values p q c.in_ok-key.ensures.kept t c.in-Some.known (c.requires.owned) done
 
-pub returns-in_ok-valued-in-Ok-clause-values : goal.returns-in_ok-valued-in-Ok-clause-values
-returns-in_ok-valued-in-Ok-clause-values g c =
-    let p = c.args.self.now in
-    let f = c.args.f in
-    let tree = c.args.op.now.tree in
-    let vs = c.get.result.now in
-    let inside : Package = record { groupings = c.self.inside.table; lists = c.self.inside.values } in
-    let worked = worked_at p c.law.ensures.good tree f c.requires.owned vs (values_read p inside f vs c.self.view_is c.get.ensures.list) in
-    let made : Means c.valued.new.self c.in_ok-valued-in-Ok.field-0 (function_of p.groupings.levels f.head.level f.head.at c.as_slice.result.now) = c.in_ok-valued-in-Ok.ensures.means in
-    has_values p.groupings.levels c.valued.new.self f.head c.in_ok-valued-in-Ok.field-0 c.as_slice.result.now f.head.level (map_value p tree f)
-    (worked_gives p.groupings.levels f.head f.head.level (map_each tree vs) (map_value p tree f) worked c.as_slice.result.now (ap (map Some) c.as_slice.ensures.value ∙ c.in-Ok.ensures.values))
-    made
+pub returns-in-Some-clause-remembered : goal.returns-in-Some-clause-remembered
+returns-in-Some-clause-remembered g c =
+    let q = c.key_of.new.self in
+    subst (λ (u : Task). IsRemembered q u c.in-Some.known) c.in_ok-key.ensures.key.is_it c.in-Some.ensures.there
 
-pub returns-in-Err-clause-overflow : goal.returns-in-Err-clause-overflow
-returns-in-Err-clause-overflow g c at e =
+pub returns-in-Some-clause-finished : goal.returns-in-Some-clause-finished
+returns-in-Some-clause-finished g c =
     let p = c.args.self.now in
-    let f = c.args.f in
-    let tree = c.args.op.now.tree in
-    let vs = c.get.result.now in
-    let inside : Package = record { groupings = c.self.inside.table; lists = c.self.inside.values } in
-    let worked = worked_at p c.law.ensures.good tree f c.requires.owned vs (values_read p inside f vs c.self.view_is c.get.ensures.list) in
-    fault_least p.groupings.levels f.head f.head.level (map_each tree vs) (map_value p tree f) worked c.in-Err.fault
-    (first_of c.map_exits.result (map_each tree vs) c.in-Err.fault c.in-Err.is c.map_exits.ensures.first)
-    c.overflow.result c.overflow.ensures at (err_same c.overflow.result (OpFault.Overflow at) e)
+    let q = c.key_of.new.self in
+    let t : Task = task.Map c.args.op.now.tree c.args.f in
+    let done : IsDone q t c.in-Some.known = subst (λ (u : Task). IsDone q u c.in-Some.known) c.in_ok-key.ensures.key.is_it c.in-Some.ensures in
+    found_answers p q c.in_ok-key.ensures.kept t c.in-Some.known done c.in_ok-key.ensures.known
+
+pub returns-in-Some-clause-added : goal.returns-in-Some-clause-added
+returns-in-Some-clause-added g c = adds_none c.args.self.now.groupings c.key_of.new.self.groupings c.in_ok-key.ensures.groupings (function_parts c.key_of.new.self c.in-Some.known)
+
+-- no key, and so no finished job
+pub returns-in_err-key-clause-finished : goal.returns-in_err-key-clause-finished
+returns-in_err-key-clause-finished g c = unknown_answers c.args.self.now c.key_of.new.self (task.Map c.args.op.now.tree c.args.f) c.key_of.result _ c.in_err-key.was c.key_of.ensures.answers _
+
+-- a job that wasn't finished
+pub map_anew-requires-clause-owned : goal.map_anew-requires-clause-owned
+map_anew-requires-clause-owned g c = owned_kept c.args.self.now c.key_of.new.self c.in_ok-key.ensures.kept c.args.f c.requires.owned
+
+pub remember-requires-clause-told : goal.remember-requires-clause-told
+remember-requires-clause-told g c =
+    subst (λ (m : Remembered). IsTold m.trees c.in_ok-key.key) (sym c.in_ok-made.ensures.memo) c.in_ok-key.ensures.key.told
+
+pub remember-requires-clause-undone : goal.remember-requires-clause-undone
+remember-requires-clause-undone g c =
+    subst (λ (m : Remembered). IsUndone m (task_at m.trees c.in_ok-key.key)) (sym c.in_ok-made.ensures.memo) c.in_default.ensures
+
+pub remember-requires-clause-is_it : goal.remember-requires-clause-is_it
+remember-requires-clause-is_it g c =
+    let p = c.args.self.now in
+    let q = c.key_of.new.self in
+    let r = c.map_anew.new.self in
+    let t : Task = task.Map c.args.op.now.tree c.args.f in
+    subst (λ (u : Task). Finishes r u c.in_ok-made.made) (sym (ap (λ (m : Remembered). task_at m.trees c.in_ok-key.key) c.in_ok-made.ensures.memo ∙ c.in_ok-key.ensures.key.is_it))
+    (new_finishes q r c.in_ok-made.ensures.kept t c.in_ok-made.made (owned_kept c.args.self.now c.key_of.new.self c.in_ok-key.ensures.kept c.args.f c.requires.owned) c.in_ok-made.ensures.values)
+
+pub returns-in_err-made-clause-overflow : goal.returns-in_err-made-clause-overflow
+returns-in_err-made-clause-overflow g c =
+    let p = c.args.self.now in
+    let q = c.key_of.new.self in
+    let t : Task = task.Map c.args.op.now.tree c.args.f in
+    let fact = new_overflow p q c.in_ok-key.ensures.kept t (c.requires.owned) c.map_anew.result c.map_anew.ensures.overflow in
+    search (rules, fact)
+
+pub returns-in_err-made-clause-finished : goal.returns-in_err-made-clause-finished
+returns-in_err-made-clause-finished g c =
+    let q = c.key_of.new.self in
+    new_answers c.args.self.now q c.map_anew.new.self c.in_ok-key.ensures.kept (task.Map c.args.op.now.tree c.args.f) (subst (λ (u : Task). IsUndone q.memo u) c.in_ok-key.ensures.key.is_it c.in_default.ensures) _
+
+pub returns-in_err-made-clause-kept : goal.returns-in_err-made-clause-kept
+returns-in_err-made-clause-kept g c = Keeps-trans c.args.self.now c.key_of.new.self c.map_anew.new.self c.in_ok-key.ensures.kept c.map_anew.ensures.kept
+
+pub returns-in_err-remember-clause-finished : goal.returns-in_err-remember-clause-finished
+returns-in_err-remember-clause-finished g c =
+    let q = c.key_of.new.self in
+    new_answers c.args.self.now q c.remember.new.self c.in_ok-key.ensures.kept (task.Map c.args.op.now.tree c.args.f) (subst (λ (u : Task). IsUndone q.memo u) c.in_ok-key.ensures.key.is_it c.in_default.ensures) _
+
+pub returns-in_err-remember-clause-kept : goal.returns-in_err-remember-clause-kept
+returns-in_err-remember-clause-kept g c =
+    subst (λ (x : Package). Keeps c.args.self.now x) (sym c.in_err-remember.ensures.no_memory)
+    (Keeps-trans c.args.self.now c.key_of.new.self c.map_anew.new.self c.in_ok-key.ensures.kept c.map_anew.ensures.kept)
+
+pub returns-clause-values : goal.returns-clause-values
+returns-clause-values g c =
+    let p = c.args.self.now in
+    let q = c.key_of.new.self in
+    let r = c.map_anew.new.self in
+    let t : Task = task.Map c.args.op.now.tree c.args.f in
+    subst (λ (x : Package). HasValues x c.in_ok-made.made (task_level t) (task_value p t)) (sym c.in_ok-remember.ensures.remembered)
+    (new_values p q r c.in_ok-key.ensures.kept t c.in_ok-made.made c.in_ok-key.key (c.requires.owned) c.in_ok-made.ensures.values)
+
+pub returns-clause-added : goal.returns-clause-added
+returns-clause-added g c =
+    let p = c.args.self.now in
+    let q = c.key_of.new.self in
+    let r = c.map_anew.new.self in
+    let made = c.in_ok-made.made in
+    subst (λ (x : Package). AddsOnly p.groupings.levels x.groupings.levels (function_parts x made)) (sym c.in_ok-remember.ensures.remembered)
+    (subst (λ (t : Groupings). AddsOnly t.levels r.groupings.levels (function_parts r made)) c.in_ok-key.ensures.groupings c.in_ok-made.ensures.added)
+
+pub returns-clause-remembered : goal.returns-clause-remembered
+returns-clause-remembered g c =
+    let r = c.map_anew.new.self in
+    let t : Task = task.Map c.args.op.now.tree c.args.f in
+    subst (λ (x : Package). IsRemembered x t c.in_ok-made.made) (sym c.in_ok-remember.ensures.remembered)
+    (new_remembered r c.in_ok-key.key t c.in_ok-made.made (ap (λ (m : Remembered). task_at m.trees c.in_ok-key.key) c.in_ok-made.ensures.memo ∙ c.in_ok-key.ensures.key.is_it))
+
+pub returns-clause-finished : goal.returns-clause-finished
+returns-clause-finished g c =
+    let q = c.key_of.new.self in
+    new_answers c.args.self.now q c.remember.new.self c.in_ok-key.ensures.kept (task.Map c.args.op.now.tree c.args.f) (subst (λ (u : Task). IsUndone q.memo u) c.in_ok-key.ensures.key.is_it c.in_default.ensures) _
+
+pub returns-clause-kept : goal.returns-clause-kept
+returns-clause-kept g c =
+    let p = c.args.self.now in
+    let r = c.map_anew.new.self in
+    subst (λ (x : Package). Keeps p x) (sym c.in_ok-remember.ensures.remembered)
+    (Keeps-trans p r (with_job r c.in_ok-key.key c.in_ok-made.made) (Keeps-trans p c.key_of.new.self r c.in_ok-key.ensures.kept c.map_anew.ensures.kept) (remember_keeps r c.in_ok-key.key c.in_ok-made.made))

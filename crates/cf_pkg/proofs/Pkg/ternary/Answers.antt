@@ -1,168 +1,131 @@
-use Rattle.std.proofs.Common.{◌≡◌, ℕ, ℤ, List, ◌++◌, map, Some, sym, ◌∙◌, ap, subst}
-use Rattle.std.specs.List.{slice_get}
-use Rattle.cf_model.specs.Functions.{function_of}
-use Rattle.cf_model.specs.Diagrams.{Levels, pattern, IsGood}
-use Rattle.cf_model.specs.declared.terms.Term.{Term}
-use Rattle.cf_table.specs.declared.Gid.{Gid}
-use Rattle.cf_table.specs.Groupings.{pattern_of}
-use Rattle.cf_build.specs.Assembling.{HasCanon, AddsOnly}
-use Rattle.cf_table.specs.Triples.{zip3}
-use Rattle.cf_pkg.specs.declared.Func.{Func}
-use Rattle.cf_pkg.specs.declared.jobs.OpFault.{OpFault}
-use Rattle.cf_pkg.specs.Packages.{Package, Means, values_of, function_parts}
+use Rattle.std.proofs.Common.{◌++◌, sym, ap, ◌∙◌, subst, rules}
+use Rattle.cf_table.specs.Groupings.{Groupings}
+use Rattle.cf_build.specs.Assembling.{AddsOnly}
+use Rattle.cf_pkg.specs.Tasks.{Task}
+use Rattle.cf_pkg.specs.Tasks as task
+use Rattle.cf_pkg.specs.Memos.{Remembered, IsTold, task_at, IsUndone}
+use Rattle.cf_pkg.specs.Packages.{Package, package_of, function_parts, IsRemembered, Keeps}
 use Rattle.cf_pkg.specs.Products.{triple_parts}
-use Rattle.cf_pkg.specs.Exits.{ternary_each, TriplesWithin}
-use Rattle.cf_pkg.specs.Jobs.{AreLevel, ternary_value}
-use Rattle.cf_pkg.proofs.Valued.{Worked, worked_gives, worked_long, has_values, fault_exit, fault_least, first_of, err_same, values_read}
-use Rattle.cf_pkg.proofs.Works.{ternary_worked, triples_within}
-use Rattle.cf_pkg.proofs.Added.{triple_added}
-use Rattle.cf_pkg.proofs.Remembering.{sound_shown}
+use Rattle.cf_pkg.specs.Jobs.{Finishes, HasValues, task_level, task_value}
+use Rattle.cf_pkg.specs.Remembering.{IsDone}
+use Rattle.cf_pkg.proofs.Valued.{Keeps-trans}
+use Rattle.cf_pkg.proofs.Finishing.{level_kept}
+use Rattle.cf_pkg.proofs.Remembering.{with_job, remember_keeps}
+use Rattle.cf_pkg.proofs.Doing.{found_values, found_answers, new_answers, unknown_answers, new_finishes, new_values, new_overflow, new_remembered, adds_none}
 use Rattle.cf_pkg.proofs.Pkg.ternary.Goals as goal
 
-abbrev all_of : Package → Func → Func → Func → List (ℕ × ℕ × ℕ)
-all_of p f g h = zip3 (pattern_of p.groupings f.head) (pattern_of p.groupings g.head) (pattern_of p.groupings h.head)
-
--- What is known once the triples of the product and the three lists of values were read.
-record Read (p : Package) (f g h : Func) (u : Levels) (r : Gid) (triples : List (ℕ × ℕ × ℕ)) (us vs ws : List ℤ) : Type 0 where
-  good : IsGood p.groupings.levels
-  in_order : AreLevel p f g
-  third_in_order : AreLevel p f h
-  now_good : IsGood u
-  canon : HasCanon u r f.head.level (all_of p f g h) triples
-  first : values_of p f ≡ us
-  second : values_of p g ≡ vs
-  third : values_of p h ≡ ws
-
-within : (p : Package) (f g h : Func) (u : Levels) (r : Gid) (triples : List (ℕ × ℕ × ℕ)) (us vs ws : List ℤ) → Read p f g h u r triples us vs ws → TriplesWithin us vs ws triples
-within p f g h u r triples us vs ws k =
-    subst (λ (xs : List ℤ). TriplesWithin xs vs ws triples) k.first
-    (subst (λ (xs : List ℤ). TriplesWithin (values_of p f) xs ws triples) k.second
-    (subst (λ (xs : List ℤ). TriplesWithin (values_of p f) (values_of p g) xs triples) k.third
-    (triples_within p k.good f g h k.in_order k.third_in_order (pattern u r.level r.at) triples k.canon.canon)))
-
-worked : (p : Package) (f g h : Func) (u : Levels) (r : Gid) (triples : List (ℕ × ℕ × ℕ)) (us vs ws : List ℤ) → Read p f g h u r triples us vs ws → (tree : Term)
-    → Worked u r f.head.level (ternary_each tree us vs ws triples) (ternary_value p tree f g h)
-worked p f g h u r triples us vs ws k tree =
-    subst (λ (xs : List ℤ). Worked u r f.head.level (ternary_each tree xs vs ws triples) (ternary_value p tree f g h)) k.first
-    (subst (λ (xs : List ℤ). Worked u r f.head.level (ternary_each tree (values_of p f) xs ws triples) (ternary_value p tree f g h)) k.second
-    (subst (λ (xs : List ℤ). Worked u r f.head.level (ternary_each tree (values_of p f) (values_of p g) xs triples) (ternary_value p tree f g h)) k.third
-    (ternary_worked p k.good tree f g h k.in_order k.third_in_order u k.now_good r triples k.canon)))
-
--- the same from what the code has
-reading : (p inside : Package) (f g h : Func) (u : Levels) (r : Gid) (items triples : List (ℕ × ℕ × ℕ)) (us vs ws : List ℤ) → IsGood p.groupings.levels → AreLevel p f g → AreLevel p f h → IsGood u
-    → HasCanon u r f.head.level (all_of inside f g h) items → triples ≡ items → inside ≡ p
-    → slice_get inside.lists f.vals.at ≡ Some us → slice_get inside.lists g.vals.at ≡ Some vs → slice_get inside.lists h.vals.at ≡ Some ws → Read p f g h u r triples us vs ws
-reading p inside f g h u r items triples us vs ws good o q good_u c e is l m n = record {
-  good = good;
-  in_order = o;
-  third_in_order = q;
-  now_good = good_u;
-  canon = subst (λ (b : Package). HasCanon u r f.head.level (all_of b f g h) triples) is (subst (λ (v : List (ℕ × ℕ × ℕ)). HasCanon u r f.head.level (all_of inside f g h) v) (sym e) c);
-  first = values_read p inside f us is l;
-  second = values_read p inside g vs is m;
-  third = values_read p inside h ws is n;
-}
-
-pub ternary_exits-requires-clause-within : goal.ternary_exits-requires-clause-within
-ternary_exits-requires-clause-within g c =
+-- a job that was finished
+pub returns-in-Some-clause-values : goal.returns-in-Some-clause-values
+returns-in-Some-clause-values g c =
     let p = c.args.self.now in
-    let inside : Package = record { groupings = c.self.inside.table; lists = c.self.inside.values } in
-    let u = c.triple.new.table.levels in
-    let r = c.in_ok-head.head in
-    let triples = c.as_slice.result.now in
-    let us = c.get-first.result.now in
-    let vs = c.get-second.result.now in
-    let ws = c.get-third.result.now in
-    let read = reading p inside c.args.f c.args.g c.args.h u r c.in_ok-head.triples.items triples us vs ws c.law.ensures.good c.requires.level c.requires.third_level c.in_ok-head.ensures.good
-    c.in_ok-head.ensures.tripled c.as_slice.ensures.value c.self.view_is c.get-first.ensures.list c.get-second.ensures.list c.get-third.ensures.list in
-    within p c.args.f c.args.g c.args.h u r triples us vs ws read
+    let q = c.key_of.new.self in
+    let t : Task = task.Ternary c.args.op.now.tree c.args.f c.args.g c.args.h in
+    let done : IsDone q t c.in-Some.known = subst (λ (u : Task). IsDone q u c.in-Some.known) c.in_ok-key.ensures.key.is_it c.in-Some.ensures in
+    found_values p q c.in_ok-key.ensures.kept t c.in-Some.known ((c.requires.level, c.requires.third_level)) done
 
-pub valued-requires-clause-valued : goal.valued-requires-clause-valued
-valued-requires-clause-valued g c =
+pub returns-in-Some-clause-remembered : goal.returns-in-Some-clause-remembered
+returns-in-Some-clause-remembered g c =
+    let q = c.key_of.new.self in
+    subst (λ (u : Task). IsRemembered q u c.in-Some.known) c.in_ok-key.ensures.key.is_it c.in-Some.ensures.there
+
+pub returns-in-Some-clause-finished : goal.returns-in-Some-clause-finished
+returns-in-Some-clause-finished g c =
     let p = c.args.self.now in
-    let inside : Package = record { groupings = c.self.inside.table; lists = c.self.inside.values } in
-    let u = c.triple.new.table.levels in
-    let r = c.in_ok-head.head in
-    let triples = c.as_slice.result.now in
-    let us = c.get-first.result.now in
-    let vs = c.get-second.result.now in
-    let ws = c.get-third.result.now in
-    let read = reading p inside c.args.f c.args.g c.args.h u r c.in_ok-head.triples.items triples us vs ws c.law.ensures.good c.requires.level c.requires.third_level c.in_ok-head.ensures.good
-    c.in_ok-head.ensures.tripled c.as_slice.ensures.value c.self.view_is c.get-first.ensures.list c.get-second.ensures.list c.get-third.ensures.list in
-    let value = ternary_value p c.args.op.now.tree c.args.f c.args.g c.args.h in
-    let words = ternary_each c.args.op.now.tree us vs ws triples in
-    let w = worked p c.args.f c.args.g c.args.h u r triples us vs ws read c.args.op.now.tree in
-    worked_long u r c.args.f.head.level words value w c.as_slice-in-Ok.result.now (ap (map Some) c.as_slice-in-Ok.ensures.value ∙ c.in-Ok.ensures.values)
+    let q = c.key_of.new.self in
+    let t : Task = task.Ternary c.args.op.now.tree c.args.f c.args.g c.args.h in
+    let done : IsDone q t c.in-Some.known = subst (λ (u : Task). IsDone q u c.in-Some.known) c.in_ok-key.ensures.key.is_it c.in-Some.ensures in
+    found_answers p q c.in_ok-key.ensures.kept t c.in-Some.known done c.in_ok-key.ensures.known
 
-pub returns-in-Ok-clause-values : goal.returns-in-Ok-clause-values
-returns-in-Ok-clause-values g c =
+pub returns-in-Some-clause-added : goal.returns-in-Some-clause-added
+returns-in-Some-clause-added g c = adds_none c.args.self.now.groupings c.key_of.new.self.groupings c.in_ok-key.ensures.groupings (triple_parts c.args.self.now c.args.f c.args.g c.args.h ++ function_parts c.key_of.new.self c.in-Some.known)
+
+-- no key, and so no finished job
+pub returns-in_err-key-clause-finished : goal.returns-in_err-key-clause-finished
+returns-in_err-key-clause-finished g c = unknown_answers c.args.self.now c.key_of.new.self (task.Ternary c.args.op.now.tree c.args.f c.args.g c.args.h) c.key_of.result _ c.in_err-key.was c.key_of.ensures.answers _
+
+-- a job that wasn't finished
+pub ternary_anew-requires-clause-level : goal.ternary_anew-requires-clause-level
+ternary_anew-requires-clause-level g c = level_kept c.args.self.now c.key_of.new.self c.in_ok-key.ensures.kept c.args.f c.args.g c.requires.level
+
+pub ternary_anew-requires-clause-third_level : goal.ternary_anew-requires-clause-third_level
+ternary_anew-requires-clause-third_level g c = level_kept c.args.self.now c.key_of.new.self c.in_ok-key.ensures.kept c.args.f c.args.h c.requires.third_level
+
+pub remember-requires-clause-told : goal.remember-requires-clause-told
+remember-requires-clause-told g c =
+    subst (λ (m : Remembered). IsTold m.trees c.in_ok-key.key) (sym c.in_ok-made.ensures.memo) c.in_ok-key.ensures.key.told
+
+pub remember-requires-clause-undone : goal.remember-requires-clause-undone
+remember-requires-clause-undone g c =
+    subst (λ (m : Remembered). IsUndone m (task_at m.trees c.in_ok-key.key)) (sym c.in_ok-made.ensures.memo) c.in_default.ensures
+
+pub remember-requires-clause-is_it : goal.remember-requires-clause-is_it
+remember-requires-clause-is_it g c =
     let p = c.args.self.now in
-    let inside : Package = record { groupings = c.self.inside.table; lists = c.self.inside.values } in
-    let u = c.triple.new.table.levels in
-    let r = c.in_ok-head.head in
-    let triples = c.as_slice.result.now in
-    let us = c.get-first.result.now in
-    let vs = c.get-second.result.now in
-    let ws = c.get-third.result.now in
-    let read = reading p inside c.args.f c.args.g c.args.h u r c.in_ok-head.triples.items triples us vs ws c.law.ensures.good c.requires.level c.requires.third_level c.in_ok-head.ensures.good
-    c.in_ok-head.ensures.tripled c.as_slice.ensures.value c.self.view_is c.get-first.ensures.list c.get-second.ensures.list c.get-third.ensures.list in
-    let value = ternary_value p c.args.op.now.tree c.args.f c.args.g c.args.h in
-    let words = ternary_each c.args.op.now.tree us vs ws triples in
-    let w = worked p c.args.f c.args.g c.args.h u r triples us vs ws read c.args.op.now.tree in
-    let made : Means c.valued.new.self c.in_ok-valued-in-Ok.field-0 (function_of u r.level r.at c.as_slice-in-Ok.result.now) = c.in_ok-valued-in-Ok.ensures.means in
-    has_values u c.valued.new.self r c.in_ok-valued-in-Ok.field-0 c.as_slice-in-Ok.result.now c.args.f.head.level value
-    (worked_gives u r c.args.f.head.level words value w c.as_slice-in-Ok.result.now (ap (map Some) c.as_slice-in-Ok.ensures.value ∙ c.in-Ok.ensures.values))
-    made
+    let q = c.key_of.new.self in
+    let r = c.ternary_anew.new.self in
+    let t : Task = task.Ternary c.args.op.now.tree c.args.f c.args.g c.args.h in
+    subst (λ (u : Task). Finishes r u c.in_ok-made.made) (sym (ap (λ (m : Remembered). task_at m.trees c.in_ok-key.key) c.in_ok-made.ensures.memo ∙ c.in_ok-key.ensures.key.is_it))
+    (new_finishes q r c.in_ok-made.ensures.kept t c.in_ok-made.made ((level_kept c.args.self.now c.key_of.new.self c.in_ok-key.ensures.kept c.args.f c.args.g c.requires.level, level_kept c.args.self.now c.key_of.new.self c.in_ok-key.ensures.kept c.args.f c.args.h c.requires.third_level)) c.in_ok-made.ensures.values)
 
-pub returns-in-Ok-clause-added : goal.returns-in-Ok-clause-added
-returns-in-Ok-clause-added g c =
-    let inside : Package = record { groupings = c.self.inside.table; lists = c.self.inside.values } in
-    let q = c.valued.new.self in
-    let answer = c.in_ok-valued-in-Ok in
-    subst (λ (b : Package). AddsOnly b.groupings.levels q.groupings.levels (triple_parts b c.args.f c.args.g c.args.h ++ function_parts q answer.field-0)) c.self.view_is
-    (triple_added inside q c.args.f c.args.g c.args.h c.triple.new.table.levels c.in_ok-head.head c.in_ok-head.triples.items answer.field-0 c.in_ok-head.ensures.good answer.ensures.kept.groupings
-    c.in_ok-head.ensures.tripled c.in_ok-head.ensures.added answer.ensures.added)
-
-pub overflow-requires-clause-exit : goal.overflow-requires-clause-exit
-overflow-requires-clause-exit g c =
+pub returns-in_err-made-clause-overflow : goal.returns-in_err-made-clause-overflow
+returns-in_err-made-clause-overflow g c =
     let p = c.args.self.now in
-    let inside : Package = record { groupings = c.self.inside.table; lists = c.self.inside.values } in
-    let u = c.triple.new.table.levels in
-    let r = c.in_ok-head.head in
-    let triples = c.as_slice.result.now in
-    let us = c.get-first.result.now in
-    let vs = c.get-second.result.now in
-    let ws = c.get-third.result.now in
-    let read = reading p inside c.args.f c.args.g c.args.h u r c.in_ok-head.triples.items triples us vs ws c.law.ensures.good c.requires.level c.requires.third_level c.in_ok-head.ensures.good
-    c.in_ok-head.ensures.tripled c.as_slice.ensures.value c.self.view_is c.get-first.ensures.list c.get-second.ensures.list c.get-third.ensures.list in
-    let value = ternary_value p c.args.op.now.tree c.args.f c.args.g c.args.h in
-    let words = ternary_each c.args.op.now.tree us vs ws triples in
-    let w = worked p c.args.f c.args.g c.args.h u r triples us vs ws read c.args.op.now.tree in
-    fault_exit u r c.args.f.head.level words value w c.in-Err.fault (first_of c.ternary_exits.result words c.in-Err.fault c.in-Err.is c.ternary_exits.ensures.first)
+    let q = c.key_of.new.self in
+    let t : Task = task.Ternary c.args.op.now.tree c.args.f c.args.g c.args.h in
+    let fact = new_overflow p q c.in_ok-key.ensures.kept t ((c.requires.level, c.requires.third_level)) c.ternary_anew.result c.ternary_anew.ensures.overflow in
+    search (rules, fact)
 
-pub returns-clause-overflow : goal.returns-clause-overflow
-returns-clause-overflow g c at e =
+pub returns-in_err-made-clause-finished : goal.returns-in_err-made-clause-finished
+returns-in_err-made-clause-finished g c =
+    let q = c.key_of.new.self in
+    new_answers c.args.self.now q c.ternary_anew.new.self c.in_ok-key.ensures.kept (task.Ternary c.args.op.now.tree c.args.f c.args.g c.args.h) (subst (λ (u : Task). IsUndone q.memo u) c.in_ok-key.ensures.key.is_it c.in_default.ensures) _
+
+pub returns-in_err-made-clause-kept : goal.returns-in_err-made-clause-kept
+returns-in_err-made-clause-kept g c = Keeps-trans c.args.self.now c.key_of.new.self c.ternary_anew.new.self c.in_ok-key.ensures.kept c.ternary_anew.ensures.kept
+
+pub returns-in_err-remember-clause-finished : goal.returns-in_err-remember-clause-finished
+returns-in_err-remember-clause-finished g c =
+    let q = c.key_of.new.self in
+    new_answers c.args.self.now q c.remember.new.self c.in_ok-key.ensures.kept (task.Ternary c.args.op.now.tree c.args.f c.args.g c.args.h) (subst (λ (u : Task). IsUndone q.memo u) c.in_ok-key.ensures.key.is_it c.in_default.ensures) _
+
+pub returns-in_err-remember-clause-kept : goal.returns-in_err-remember-clause-kept
+returns-in_err-remember-clause-kept g c =
+    subst (λ (x : Package). Keeps c.args.self.now x) (sym c.in_err-remember.ensures.no_memory)
+    (Keeps-trans c.args.self.now c.key_of.new.self c.ternary_anew.new.self c.in_ok-key.ensures.kept c.ternary_anew.ensures.kept)
+
+pub returns-clause-values : goal.returns-clause-values
+returns-clause-values g c =
     let p = c.args.self.now in
-    let inside : Package = record { groupings = c.self.inside.table; lists = c.self.inside.values } in
-    let u = c.triple.new.table.levels in
-    let r = c.in_ok-head.head in
-    let triples = c.as_slice.result.now in
-    let us = c.get-first.result.now in
-    let vs = c.get-second.result.now in
-    let ws = c.get-third.result.now in
-    let read = reading p inside c.args.f c.args.g c.args.h u r c.in_ok-head.triples.items triples us vs ws c.law.ensures.good c.requires.level c.requires.third_level c.in_ok-head.ensures.good
-    c.in_ok-head.ensures.tripled c.as_slice.ensures.value c.self.view_is c.get-first.ensures.list c.get-second.ensures.list c.get-third.ensures.list in
-    let value = ternary_value p c.args.op.now.tree c.args.f c.args.g c.args.h in
-    let words = ternary_each c.args.op.now.tree us vs ws triples in
-    let w = worked p c.args.f c.args.g c.args.h u r triples us vs ws read c.args.op.now.tree in
-    fault_least u r c.args.f.head.level words value w c.in-Err.fault (first_of c.ternary_exits.result words c.in-Err.fault c.in-Err.is c.ternary_exits.ensures.first)
-    c.overflow.result c.overflow.ensures at (err_same c.overflow.result (OpFault.Overflow at) e)
+    let q = c.key_of.new.self in
+    let r = c.ternary_anew.new.self in
+    let t : Task = task.Ternary c.args.op.now.tree c.args.f c.args.g c.args.h in
+    subst (λ (x : Package). HasValues x c.in_ok-made.made (task_level t) (task_value p t)) (sym c.in_ok-remember.ensures.remembered)
+    (new_values p q r c.in_ok-key.ensures.kept t c.in_ok-made.made c.in_ok-key.key ((c.requires.level, c.requires.third_level)) c.in_ok-made.ensures.values)
 
-pub invariant_of-self : goal.invariant_of-self
-invariant_of-self g c = sound_shown c.args.self.now c.self.inside.table c.triple.new.table c.self.inside.values c.self.inside.memo.entries c.self.view_is c.law.ensures.good c.in_err-head.ensures.kept c.in_err-head.ensures.tuples c.self.invariant
+pub returns-clause-added : goal.returns-clause-added
+returns-clause-added g c =
+    let p = c.args.self.now in
+    let q = c.key_of.new.self in
+    let r = c.ternary_anew.new.self in
+    let made = c.in_ok-made.made in
+    subst (λ (x : Package). AddsOnly p.groupings.levels x.groupings.levels (triple_parts p c.args.f c.args.g c.args.h ++ function_parts x made)) (sym c.in_ok-remember.ensures.remembered)
+    (subst (λ (t : Groupings). AddsOnly t.levels r.groupings.levels (triple_parts (package_of t q.lists q.memo) c.args.f c.args.g c.args.h ++ function_parts r made)) c.in_ok-key.ensures.groupings c.in_ok-made.ensures.added)
 
-pub invariant_of-self-in-Ok : goal.invariant_of-self-in-Ok
-invariant_of-self-in-Ok g c = sound_shown c.args.self.now c.self.inside.table c.triple.new.table c.self.inside.values c.self.inside.memo.entries c.self.view_is c.law.ensures.good c.in_ok-head.ensures.kept c.in_ok-head.ensures.tuples c.self.invariant
+pub returns-clause-remembered : goal.returns-clause-remembered
+returns-clause-remembered g c =
+    let r = c.ternary_anew.new.self in
+    let t : Task = task.Ternary c.args.op.now.tree c.args.f c.args.g c.args.h in
+    subst (λ (x : Package). IsRemembered x t c.in_ok-made.made) (sym c.in_ok-remember.ensures.remembered)
+    (new_remembered r c.in_ok-key.key t c.in_ok-made.made (ap (λ (m : Remembered). task_at m.trees c.in_ok-key.key) c.in_ok-made.ensures.memo ∙ c.in_ok-key.ensures.key.is_it))
 
-pub invariant_of-self-in-Err : goal.invariant_of-self-in-Err
-invariant_of-self-in-Err g c = sound_shown c.args.self.now c.self.inside.table c.triple.new.table c.self.inside.values c.self.inside.memo.entries c.self.view_is c.law.ensures.good c.in_ok-head.ensures.kept c.in_ok-head.ensures.tuples c.self.invariant
+pub returns-clause-finished : goal.returns-clause-finished
+returns-clause-finished g c =
+    let q = c.key_of.new.self in
+    new_answers c.args.self.now q c.remember.new.self c.in_ok-key.ensures.kept (task.Ternary c.args.op.now.tree c.args.f c.args.g c.args.h) (subst (λ (u : Task). IsUndone q.memo u) c.in_ok-key.ensures.key.is_it c.in_default.ensures) _
+
+pub returns-clause-kept : goal.returns-clause-kept
+returns-clause-kept g c =
+    let p = c.args.self.now in
+    let r = c.ternary_anew.new.self in
+    subst (λ (x : Package). Keeps p x) (sym c.in_ok-remember.ensures.remembered)
+    (Keeps-trans p r (with_job r c.in_ok-key.key c.in_ok-made.made) (Keeps-trans p c.key_of.new.self r c.in_ok-key.ensures.kept c.ternary_anew.ensures.kept) (remember_keeps r c.in_ok-key.key c.in_ok-made.made))

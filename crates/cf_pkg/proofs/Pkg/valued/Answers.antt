@@ -1,4 +1,4 @@
-use Rattle.std.proofs.Common.{◌≡◌, ◌<◌, ℕ, ℤ, List, length, Some, ap, sym, ◌∙◌, subst, arith, rules}
+use Rattle.std.proofs.Common.{refl, ◌≡◌, ◌<◌, ℕ, ℤ, List, length, Some, ap, sym, ◌∙◌, subst, arith, rules}
 use Rattle.std.specs.List.{All, slice_get}
 use Rattle.cf_model.proofs.RenumberingLaws.{canon_length}
 use Rattle.cf_model.specs.Renumbering.{IsCanon}
@@ -20,7 +20,7 @@ use Rattle.cf_pkg.proofs.Pkg.valued.Goals as goal
 
 pub intern-requires-clause-some : goal.intern-requires-clause-some
 intern-requires-clause-some c =
-    let before : Package = record { groupings = c.self.inside.table; lists = c.self.inside.values } in
+    let before : Package = record { groupings = c.self.inside.table; lists = c.self.inside.values; memo = c.self.inside.memo } in
     let own : c.args.g.at < count before.groupings.levels c.args.g.level = subst (λ (p : Package). c.args.g.at < count p.groupings.levels c.args.g.level) (sym c.self.view_is) c.requires.owned in
     let long : length c.args.values.now ≡ exits before.groupings.levels c.args.g.level c.args.g.at
     = c.requires.valued ∙ ap (λ (p : Package). exits p.groupings.levels c.args.g.level c.args.g.at) (sym c.self.view_is) in
@@ -30,32 +30,32 @@ intern-requires-clause-some c =
 
 pub invariant_of-self : goal.invariant_of-self
 invariant_of-self c =
-    sound_above c.self.inside.table c.forget_beyond.new.self c.self.inside.values c.self.inside.memo.entries c.law.ensures.good
+    sound_above c.self.inside.table c.forget_beyond.new.self c.self.inside.values c.self.inside.memo c.law.ensures.good
     (subst (λ (l : Levels). Extends c.self.inside.table.levels l) (sym c.forget_beyond.ensures.levels) (Extends-refl c.self.inside.table.levels))
     (Lengthens-same c.self.inside.table.tuples c.forget_beyond.new.self.tuples c.forget_beyond.ensures.tuples) c.self.invariant
 
 pub invariant_of-self-in_err-head : goal.invariant_of-self-in_err-head
 invariant_of-self-in_err-head c =
-    sound_above c.self.inside.table c.reduce.new.table c.self.inside.values c.self.inside.memo.entries c.law.ensures.good
+    sound_above c.self.inside.table c.reduce.new.table c.self.inside.values c.self.inside.memo c.law.ensures.good
     (subst (λ (l : Levels). Extends l c.reduce.new.table.levels) c.forget_beyond.ensures.levels c.in_err-head.ensures.kept) (subst (λ (ts : List (List ℕ)). Lengthens ts c.reduce.new.table.tuples) c.forget_beyond.ensures.tuples c.in_err-head.ensures.tuples) c.self.invariant
 
 pub invariant_of-self-in_err-vals : goal.invariant_of-self-in_err-vals
 invariant_of-self-in_err-vals c =
     let fits : All (All Fits) c.intern.new.self = search rules in
-    sound_grown c.self.inside.table c.reduce.new.table c.self.inside.values c.intern.new.self c.self.inside.memo.entries c.law.ensures.good
+    sound_grown c.self.inside.table c.reduce.new.table c.self.inside.values c.intern.new.self c.self.inside.memo c.law.ensures.good
     (subst (λ (l : Levels). Extends l c.reduce.new.table.levels) c.forget_beyond.ensures.levels c.in_ok-head.ensures.kept) (subst (λ (ts : List (List ℕ)). Lengthens ts c.reduce.new.table.tuples) c.forget_beyond.ensures.tuples c.in_ok-head.ensures.tuples) c.intern.ensures.kept fits c.self.invariant
 
 pub invariant_of-self-2 : goal.invariant_of-self-2
 invariant_of-self-2 c =
     let fit : All Fits c.as_slice-2.result.now = subst (λ (v : List ℤ). All Fits v) (sym c.as_slice-2.ensures.value) c.in_ok-ranks.ensures.labels in
     let fits : All (All Fits) c.intern.new.self = all_kept (All Fits) c.self.inside.values c.intern.new.self c.as_slice-2.result.now c.in_ok-vals.vals.at c.in_ok-vals.ensures.interned c.self.invariant.fit fit in
-    sound_grown c.self.inside.table c.reduce.new.table c.self.inside.values c.intern.new.self c.self.inside.memo.entries c.law.ensures.good
+    sound_grown c.self.inside.table c.reduce.new.table c.self.inside.values c.intern.new.self c.self.inside.memo c.law.ensures.good
     (subst (λ (l : Levels). Extends l c.reduce.new.table.levels) c.forget_beyond.ensures.levels c.in_ok-head.ensures.kept) (subst (λ (ts : List (List ℕ)). Lengthens ts c.reduce.new.table.tuples) c.forget_beyond.ensures.tuples c.in_ok-head.ensures.tuples) c.in_ok-vals.ensures.kept fits c.self.invariant
 
 pub returns-clause-means : goal.returns-clause-means
 returns-clause-means c =
-    let before : Package = record { groupings = c.self.inside.table; lists = c.self.inside.values } in
-    let now : Package = record { groupings = c.reduce.new.table; lists = c.intern.new.self } in
+    let before : Package = record { groupings = c.self.inside.table; lists = c.self.inside.values; memo = c.self.inside.memo } in
+    let now : Package = record { groupings = c.reduce.new.table; lists = c.intern.new.self; memo = c.self.inside.memo } in
     let own : c.args.g.at < count before.groupings.levels c.args.g.level = subst (λ (p : Package). c.args.g.at < count p.groupings.levels c.args.g.level) (sym c.self.view_is) c.requires.owned in
     let long : length c.args.values.now ≡ exits before.groupings.levels c.args.g.level c.args.g.at
     = c.requires.valued ∙ ap (λ (p : Package). exits p.groupings.levels c.args.g.level c.args.g.at) (sym c.self.view_is) in
@@ -72,10 +72,10 @@ returns-clause-means c =
 
 pub returns-clause-kept : goal.returns-clause-kept
 returns-clause-kept c =
-    let before : Package = record { groupings = c.self.inside.table; lists = c.self.inside.values } in
-    let now : Package = record { groupings = c.reduce.new.table; lists = c.intern.new.self } in
+    let before : Package = record { groupings = c.self.inside.table; lists = c.self.inside.values; memo = c.self.inside.memo } in
+    let now : Package = record { groupings = c.reduce.new.table; lists = c.intern.new.self; memo = c.self.inside.memo } in
     subst (λ (p : Package). Keeps p now) c.self.view_is (keeps before now c.law.ensures.good
-    (subst (λ (l : Levels). Extends l now.groupings.levels) c.forget_beyond.ensures.levels c.in_ok-head.ensures.kept) (subst (λ (ts : List (List ℕ)). Lengthens ts now.groupings.tuples) c.forget_beyond.ensures.tuples c.in_ok-head.ensures.tuples) c.in_ok-vals.ensures.kept)
+    (subst (λ (l : Levels). Extends l now.groupings.levels) c.forget_beyond.ensures.levels c.in_ok-head.ensures.kept) (subst (λ (ts : List (List ℕ)). Lengthens ts now.groupings.tuples) c.forget_beyond.ensures.tuples c.in_ok-head.ensures.tuples) c.in_ok-vals.ensures.kept refl)
 
 pub reduce-requires-clause-owned : goal.reduce-requires-clause-owned
 reduce-requires-clause-owned c =

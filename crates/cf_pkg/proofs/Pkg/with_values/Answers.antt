@@ -7,4 +7,4 @@ use Rattle.cf_pkg.proofs.Pkg.with_values.Goals as goal
 pub invariant_of-self-2 : goal.invariant_of-self-2
 invariant_of-self-2 c =
     let fit : All (All Fits) c.intern.new.self = all_kept (All Fits) c.self.inside.values c.intern.new.self c.args.values.now c.in_ok-vals.vals.at c.in_ok-vals.ensures.interned c.self.invariant.fit c.requires.fit in
-    sound_valued c.self.inside.table c.self.inside.values c.intern.new.self c.self.inside.memo.entries c.law.ensures.good c.in_ok-vals.ensures.kept fit c.self.invariant
+    sound_valued c.self.inside.table c.self.inside.values c.intern.new.self c.self.inside.memo c.law.ensures.good c.in_ok-vals.ensures.kept fit c.self.invariant

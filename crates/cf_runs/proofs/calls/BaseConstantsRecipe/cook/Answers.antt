@@ -7,6 +7,7 @@ use Rattle.cf_model.specs.Diagrams.{Levels, count, pattern}
 use Rattle.cf_pkg.specs.declared.jobs.Job.{Job}
 use Rattle.cf_pkg.specs.declared.jobs.Job.TheVariants.{Const}
 use Rattle.cf_pkg.specs.Jobs.{Gives, job_level, job_value}
+use Rattle.cf_pkg.specs.Memos.{no_job}
 use Rattle.cf_pkg.specs.Packages.{package_of}
 use Rattle.cf_runs.specs.Recipes.{IsBaseConstant}
 use Rattle.cf_runs.proofs.calls.BaseConstantsRecipe.cook.Goals as goal
@@ -33,7 +34,7 @@ is_base (suc l) z d = absurd d
 pub returns-clause-value : goal.returns-clause-value
 returns-clause-value c =
     let t = c.args.table.now.levels in
-    let p = package_of c.args.table.now c.args._values.now in
+    let p = package_of c.args.table.now c.args._values.now no_job in
     let level = c.in-Const.level in
     let v = c.in-Const.v in
     let range : SFits w128 v = search rules in
