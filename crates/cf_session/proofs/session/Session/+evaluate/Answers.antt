@@ -13,7 +13,7 @@ use Rattle.cf_script.specs.Vars.{atom_of}
 use Rattle.cf_script.specs.Views.{tree_of, listed}
 use Rattle.cf_session.specs.Arguments.{arguments_of}
 use Rattle.cf_session.specs.declared.values.Value.TheVariants as value
-use Rattle.cf_session.specs.Sessions.{state_of}
+use Rattle.cf_session.specs.Sessions.{Held, state_of}
 use Rattle.cf_session.specs.Building.{Grows, Builds, IsFaultOf}
 use Rattle.cf_session.proofs.Growth.{grown_on, grown_same}
 use Rattle.cf_session.proofs.Nesting.{pair_owned, pair_kinds, next_ruled, first_fails, next_fails, step_fails, nesting_step}
@@ -83,6 +83,16 @@ evaluate_call-loop-place-preserved t c =
           h w.in-Number.ensures tt refl grown w.self-is c.in_ok-push.ensures (w.value-is ∙ ap value.Number (to_z-of_z w128 w.in-Number.n fits)))
     ] in
     record { gathered = next.0; grows = next.1 }
+
+pub evaluate_call-returns-in_err-push-clause-grows : goal.evaluate_call-returns-in_err-push-clause-grows
+evaluate_call-returns-in_err-push-clause-grows t c =
+    let start = c.args.self.now in
+    let grown = c.loop-place.invariant.grows in
+    elim c.match-argument.branch [
+      | evaluate_call-in-Expr+in-Ok w ↦ subst (λ (h : Held). Grows start h) (sym w.self-is) (grown_on start c.loop-place.self w.evaluate.new.self grown w.evaluate.ensures.grows)
+      | evaluate_call-in-Var+in-Ok-position w ↦ subst (λ (h : Held). Grows start h) (sym w.self-is) grown
+      | evaluate_call-in-Number w ↦ subst (λ (h : Held). Grows start h) (sym w.self-is) grown
+    ]
 
 pub evaluate_call-call-requires-clause-kinds : goal.evaluate_call-call-requires-clause-kinds
 evaluate_call-call-requires-clause-kinds t c =
