@@ -1,10 +1,52 @@
-use Rattle.std.proofs.Common.{◌≡◌, zero, suc, List, [], ◌∷◌, Bool, true, false, Option, Some, None, IfSome, cond, refl, sym, subst}
+use Rattle.std.proofs.Common.{◌≡◌, ℕ, zero, suc, List, [], ◌∷◌, ◌++◌, map, Bool, true, false, Option, Some, None, IfSome, cond, position, option_map, refl, sym, ◌∙◌, ap, subst, arith, inl, inr, ◌⊎◌}
 use Rattle.std.specs.List.{slice_get}
-use Rattle.std.specs.Map.{lookup}
-use Rattle.std.proofs.lemmas.Option.{same_Some}
-use Rattle.std.proofs.lemmas.Map.Entries.{place_from_lookup}
+use Rattle.std.specs.Map.{keys_of, lookup}
+use Rattle.std.specs.Option.{is_some}
+use Rattle.std.proofs.lemmas.Bool.{false≢true}
+use Rattle.std.proofs.lemmas.List.{length-map}
+use Rattle.std.proofs.lemmas.List.Quantifiers.{position-Some}
+use Rattle.std.proofs.lemmas.Option.{same_Some, slice_get-map, get_or_from_slice_get}
+use Rattle.std.proofs.lemmas.Map.Entries.{place_from_lookup, lookup_head, lookup_tail}
 use Rattle.indexmap.specs.IndexMap.{insert_entry}
+use Rattle.cf_model.proofs.CanonLaws.{read}
 use Rattle.cf_table.specs.Kept.{Each}
+
+-- where no entry is found, none passes
+pub unseen : {K V : Type 0} (test : K → Bool) (es : List (K × V)) → lookup test es ≡ None → (i : ℕ) (e : K × V) → slice_get es i ≡ Some e → test e.0 ≡ true → ⊥
+unseen test [] n i e h p = cc
+unseen {K} {V} test (x ∷ es) n i e h p = by (test x.0) refl (λ k j m. unseen test es k j e m p) i h
+  where
+    by : (b : Bool) → test x.0 ≡ b → (lookup test es ≡ None → (j : ℕ) → slice_get es j ≡ Some e → ⊥) → (i : ℕ) → slice_get (x ∷ es) i ≡ Some e → ⊥
+    by true q rest i h = absurd (let no : None ≡ Some x.1 = sym n ∙ lookup_head test x es q in cc)
+    by false q rest zero h = false≢true (sym q ∙ ap (λ (w : K × V). test w.0) (same_Some x e h) ∙ p)
+    by false q rest (suc i) h = rest (sym (lookup_tail test x es q) ∙ n) i h
+
+-- what is shown at a place is shown of an entry, and an entry is shown at its place
+pub shown_entry : {A B : Type 0} (f : A → B) (es : List A) (i : ℕ) (k : B) → slice_get (map f es) i ≡ Some k → (e : A) × (slice_get es i ≡ Some e) × (f e ≡ k)
+shown_entry f [] i k h = cc
+shown_entry f (x ∷ es) zero k h = (x, refl, same_Some (f x) k h)
+shown_entry f (x ∷ es) (suc i) k h = shown_entry f es i k h
+
+pub entry_shown : {A B : Type 0} (f : A → B) (es : List A) (i : ℕ) (e : A) → slice_get es i ≡ Some e → slice_get (map f es) i ≡ Some (f e)
+entry_shown f es i e h = slice_get-map f es i ∙ ap (option_map f) h
+
+-- the entry at the place of a key
+pub found_at : {K V : Type 0} (same : K → K → Bool) (k : K) (es : List (K × V)) (i : ℕ) → position (same k) (keys_of es) ≡ Some i → (e : K × V) × (slice_get es i ≡ Some e) × (same k e.0 ≡ true)
+found_at {K} {V} same k es i h =
+    let p = position-Some (same k) (keys_of es) i k h in
+    let x = read es i (omega (arith, p.0, length-map es (λ (e : K × V). e.0))) in
+    let at : slice_get (keys_of es) i ≡ Some x.0.0 = slice_get-map (λ (e : K × V). e.0) es i ∙ ap (λ (o : Option (K × V)). option_map (λ (e : K × V). e.0) o) x.1 in
+    (x.0, x.1, ap (same k) (sym (get_or_from_slice_get (keys_of es) i x.0.0 k at)) ∙ p.1)
+
+pub none_so : {V : Type 0} (o : Option V) → is_some o ≡ false → o ≡ None
+none_so None h = refl
+none_so (Some v) h = cc
+
+pub in_either : {A : Type 0} (xs : List A) (y : A) (i : ℕ) (x : A) → slice_get (xs ++ y ∷ []) i ≡ Some x → (slice_get xs i ≡ Some x) ⊎ (y ≡ x)
+in_either [] y zero x h = inr (same_Some y x h)
+in_either [] y (suc i) x h = cc
+in_either (z ∷ xs) y zero x h = inl h
+in_either (z ∷ xs) y (suc i) x h = in_either xs y i x h
 
 -- An entry's property is told from its key as the test compares it.
 abbrev pub Follows : {K V : Type 0} → (K → K → Bool) → (K × V → Type 0) → Type 0

@@ -1,18 +1,15 @@
-use Rattle.std.proofs.Common.{◌≡◌, ℕ, zero, suc, ◌<◌, List, [], ◌∷◌, ◌++◌, Bool, true, false, ◌&&◌, nat_eq, Bor, Option, Some, None, IfSome, MatchOption, position, option_map, refl, sym, ◌∙◌, ap, subst, arith, inl, inr, ◌⊎◌}
+use Rattle.std.proofs.Common.{◌≡◌, ℕ, suc, ◌<◌, List, [], ◌∷◌, ◌++◌, Bool, true, ◌&&◌, nat_eq, Bor, Option, Some, None, IfSome, MatchOption, position, refl, sym, ◌∙◌, ap, subst, arith, inl, inr}
 use Rattle.std.specs.List.{slice_get, zip}
 use Rattle.std.specs.Map.{keys_of, lookup}
 use Rattle.std.specs.Option.{is_some, option_copied}
-use Rattle.std.proofs.lemmas.Bool.{false≢true}
 use Rattle.std.proofs.lemmas.Bool.Decides.{nat_tests}
-use Rattle.std.proofs.lemmas.List.{map_push, length-map}
-use Rattle.std.proofs.lemmas.List.Quantifiers.{position-Some}
-use Rattle.std.proofs.lemmas.Option.{same_Some, slice_get-map, get_or_from_slice_get}
-use Rattle.std.proofs.lemmas.Map.Entries.{place_from_lookup, lookup_head, lookup_tail}
+use Rattle.std.proofs.lemmas.List.{map_push}
+use Rattle.std.proofs.lemmas.Map.Entries.{place_from_lookup}
 use Rattle.cf_model.specs.Renumbering.{AllDiffer, IsNew, IsCanon}
 use Rattle.cf_model.specs.Patterns.{Pattern}
 use Rattle.cf_model.specs.Diagrams.{Levels, count, pattern, IsGood, Extends}
 use Rattle.cf_model.proofs.Canonicity.{canonical}
-use Rattle.cf_model.proofs.CanonLaws.{AllDiffer-push, read}
+use Rattle.cf_model.proofs.CanonLaws.{AllDiffer-push}
 use Rattle.cf_model.proofs.Growing.{pattern_kept}
 use Rattle.cf_table.specs.declared.Gid.{Gid}
 use Rattle.cf_table.specs.declared.Operands.{Operands}
@@ -20,6 +17,7 @@ use Rattle.cf_table.specs.declared.Product.{Product}
 use Rattle.cf_table.specs.contracts.OperandsPartialEq.TheImpl as eq
 use Rattle.cf_table.specs.Groupings.{IsProduct, IsProductOf, patterns_of}
 use Rattle.cf_table.specs.Kept.{shown_products, HoldsProducts}
+use Rattle.cf_table.proofs.Entries.{unseen, shown_entry, entry_shown, found_at, none_so, in_either}
 use Rattle.cf_table.proofs.Told.{same_gid}
 
 -- the derived test of two keys
@@ -44,7 +42,7 @@ pub passes_key : (p q : Operands) → p.left ≡ q.left → p.right ≡ q.right 
 passes_key p q a b = joined p.left.level p.left.at p.right.level p.right.at q.left.level q.left.at q.right.level q.right.at (ap (λ (g : Gid). g.level) a) (ap (λ (g : Gid). g.at) a) (ap (λ (g : Gid). g.level) b) (ap (λ (g : Gid). g.at) b)
 
 -- two groupings with one pattern and one level are one
-same_id : (t : Levels) → IsGood t → (g h : Gid) → g.at < count t g.level → h.at < count t h.level → (patterns_of t g g).0 ≡ (patterns_of t h h).0 → g ≡ h
+pub same_id : (t : Levels) → IsGood t → (g h : Gid) → g.at < count t g.level → h.at < count t h.level → (patterns_of t g g).0 ≡ (patterns_of t h h).0 → g ≡ h
 same_id t good g h hg hh e =
     let lev : g.level ≡ h.level = ap (λ (p : Pattern). p.level) e in
     let ranks : pattern t g.level g.at ≡ pattern t h.level h.at = ap (λ (p : Pattern). p.ranks) e in
@@ -55,31 +53,15 @@ pub same_pair : (t : Levels) → IsGood t → (a b g h : Gid) → a.at < count t
 same_pair t good a b g h ha hb hg hh e =
     (same_id t good a g ha hg (ap (λ (k : Pattern × Pattern). k.0) e), same_id t good b h hb hh (ap (λ (k : Pattern × Pattern). k.1) e))
 
--- where no entry is found, none passes
-unseen : (test : Operands → Bool) (es : List (Operands × Product)) → lookup test es ≡ None → (i : ℕ) (e : Operands × Product) → slice_get es i ≡ Some e → test e.0 ≡ true → ⊥
-unseen test [] n i e h p = cc
-unseen test (x ∷ es) n i e h p = by (test x.0) refl (λ k j m. unseen test es k j e m p) i h
-  where
-    by : (b : Bool) → test x.0 ≡ b → (lookup test es ≡ None → (j : ℕ) → slice_get es j ≡ Some e → ⊥) → (i : ℕ) → slice_get (x ∷ es) i ≡ Some e → ⊥
-    by true q rest i h = absurd (let no : None ≡ Some x.1 = sym n ∙ lookup_head test x es q in cc)
-    by false q rest zero h = false≢true (sym q ∙ ap (λ (w : Operands × Product). test w.0) (same_Some x e h) ∙ p)
-    by false q rest (suc i) h = rest (sym (lookup_tail test x es q) ∙ n) i h
-
-shown_entry : (t : Levels) (es : List (Operands × Product)) (i : ℕ) (k : Pattern × Pattern) → slice_get (shown_products t es) i ≡ Some k → (e : Operands × Product) × (slice_get es i ≡ Some e) × (patterns_of t e.0.left e.0.right ≡ k)
-shown_entry t [] i k h = cc
-shown_entry t (x ∷ es) zero k h = (x, refl, same_Some (patterns_of t x.0.left x.0.right) k h)
-shown_entry t (x ∷ es) (suc i) k h = shown_entry t es i k h
-
-entry_shown : (t : Levels) (es : List (Operands × Product)) (i : ℕ) (e : Operands × Product) → slice_get es i ≡ Some e → slice_get (shown_products t es) i ≡ Some (patterns_of t e.0.left e.0.right)
-entry_shown t [] i e h = cc
-entry_shown t (x ∷ es) zero e h = ap (λ (w : Operands × Product). Some (patterns_of t w.0.left w.0.right)) (same_Some x e h)
-entry_shown t (x ∷ es) (suc i) e h = entry_shown t es i e h
+-- the patterns of an entry
+abbrev key_patterns : Levels → Operands × Product → Pattern × Pattern
+key_patterns t e = patterns_of t e.0.left e.0.right
 
 -- what a look-up by ids says of the patterns
 pub looked_up : (t : Levels) → IsGood t → (es : List (Operands × Product)) → HoldsProducts t es → (g h : Gid) → g.at < count t g.level → h.at < count t h.level → (o : Option (Bor Product)) → option_copied o ≡ lookup (same (key g h)) es
     → MatchOption o (IsNew (shown_products t es) (patterns_of t g h)) (λ r. IsProduct t g h r.now.head r.now.pairs.items)
 looked_up t good es holds g h hg hh None e = λ i q.
-    (let x = shown_entry t es i (patterns_of t g h) q in
+    (let x = shown_entry (key_patterns t) es i (patterns_of t g h) q in
     let r = holds.are i x.0 x.1 in
     let s = same_pair t good x.0.0.left x.0.0.right g h r.first r.second hg hh x.2 in
     unseen (same (key g h)) es (sym e) i x.0 x.1 (passes_key (key g h) x.0.0 (sym s.0) (sym s.1)))
@@ -89,32 +71,20 @@ looked_up t good es holds g h hg hh (Some b) e =
     let r : IsProduct t p.1.left p.1.right b.now.head b.now.pairs.items = holds.are p.0 (p.1, b.now) p.2 in
     subst (λ (x : Gid). IsProduct t g x b.now.head b.now.pairs.items) (sym s.1) (subst (λ (x : Gid). IsProduct t x p.1.right b.now.head b.now.pairs.items) (sym s.0) r)
 
--- the entry at the place of a key
-found_at : (k : Operands) (es : List (Operands × Product)) (i : ℕ) → position (same k) (keys_of es) ≡ Some i → (e : Operands × Product) × (slice_get es i ≡ Some e) × (same k e.0 ≡ true)
-found_at k es i h =
-    let p = position-Some (same k) (keys_of es) i k h in
-    let x = read es i (omega (arith, p.0, length-map es (λ (e : Operands × Product). e.0))) in
-    let at : slice_get (keys_of es) i ≡ Some x.0.0 = slice_get-map (λ (e : Operands × Product). e.0) es i ∙ ap (λ (o : Option (Operands × Product)). option_map (λ (e : Operands × Product). e.0) o) x.1 in
-    (x.0, x.1, ap (same k) (sym (get_or_from_slice_get (keys_of es) i x.0.0 k at)) ∙ p.1)
-
-none_so : (o : Option Product) → is_some o ≡ false → o ≡ None
-none_so None h = refl
-none_so (Some v) h = cc
-
 -- the place that a look-up by ids finds has the pair of patterns
 pub placed : (t : Levels) → IsGood t → (es : List (Operands × Product)) → HoldsProducts t es → (g h : Gid) → g.at < count t g.level → h.at < count t h.level → (o : Option ℕ) → o ≡ position (same (key g h)) (keys_of es) → is_some o ≡ is_some (lookup (same (key g h)) es)
     → MatchOption o (IsNew (shown_products t es) (patterns_of t g h)) (λ i. slice_get (shown_products t es) i ≡ Some (patterns_of t g h))
 placed t good es holds g h hg hh None e f = looked_up t good es holds g h hg hh None (sym (none_so (lookup (same (key g h)) es) (sym f)))
 placed t good es holds g h hg hh (Some i) e f =
-    let x = found_at (key g h) es i (sym e) in
+    let x = found_at same (key g h) es i (sym e) in
     let s = same_key (key g h) x.0.0 x.2 in
-    entry_shown t es i x.0 x.1 ∙ ap (λ (a : Gid). Some (patterns_of t a x.0.0.right)) (sym s.0) ∙ ap (λ (a : Gid). Some (patterns_of t g a)) (sym s.1)
+    entry_shown (key_patterns t) es i x.0 x.1 ∙ ap (λ (a : Gid). Some (patterns_of t a x.0.0.right)) (sym s.0) ∙ ap (λ (a : Gid). Some (patterns_of t g a)) (sym s.1)
 
 -- what stands at a place is the product of the patterns that are shown there
 pub product_shown : (t : Levels) (es : List (Operands × Product)) → HoldsProducts t es → (i : ℕ) (e : Operands × Product) → slice_get es i ≡ Some e → IfSome (slice_get (shown_products t es) i) (λ k. IsProductOf t k e.1.head e.1.pairs.items)
 product_shown t es holds i e h =
     let p = holds.are i e h in
-    subst (λ (o : Option (Pattern × Pattern)). IfSome o (λ k. IsProductOf t k e.1.head e.1.pairs.items)) (sym (entry_shown t es i e h)) (record { level = p.level; there = p.there; canon = p.canon })
+    subst (λ (o : Option (Pattern × Pattern)). IfSome o (λ k. IsProductOf t k e.1.head e.1.pairs.items)) (sym (entry_shown (key_patterns t) es i e h)) (record { level = p.level; there = p.there; canon = p.canon })
 
 -- a product of two patterns is one of any two groupings that have them
 pub product_of_patterns : (t : Levels) (g h head : Gid) (pairs : List (ℕ × ℕ)) → g.at < count t g.level → h.at < count t h.level → h.level ≡ g.level → IsProductOf t (patterns_of t g h) head pairs → IsProduct t g h head pairs
@@ -129,13 +99,7 @@ not_found t es g h new = by (lookup (same (key g h)) es) refl
     by (Some v) e =
         let p = place_from_lookup (same (key g h)) es v e in
         let s = same_key (key g h) p.1 p.3 in
-        absurd (new p.0 (entry_shown t es p.0 (p.1, v) p.2 ∙ ap Some (ap (λ (x : Gid). patterns_of t x p.1.right) (sym s.0) ∙ ap (λ (x : Gid). patterns_of t g x) (sym s.1))))
-
-in_either : {A : Type 0} (xs : List A) (y : A) (i : ℕ) (x : A) → slice_get (xs ++ y ∷ []) i ≡ Some x → (slice_get xs i ≡ Some x) ⊎ (y ≡ x)
-in_either [] y zero x h = inr (same_Some y x h)
-in_either [] y (suc i) x h = cc
-in_either (z ∷ xs) y zero x h = inl h
-in_either (z ∷ xs) y (suc i) x h = in_either xs y i x h
+        absurd (new p.0 (entry_shown (key_patterns t) es p.0 (p.1, v) p.2 ∙ ap Some (ap (λ (x : Gid). patterns_of t x p.1.right) (sym s.0) ∙ ap (λ (x : Gid). patterns_of t g x) (sym s.1))))
 
 -- one more product
 pub pushed_product : (t : Levels) (es : List (Operands × Product)) (g h : Gid) (v : Product) → HoldsProducts t es → IsProduct t g h v.head v.pairs.items → IsNew (shown_products t es) (patterns_of t g h) → HoldsProducts t (es ++ (key g h, v) ∷ [])

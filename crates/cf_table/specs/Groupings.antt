@@ -7,16 +7,17 @@ use Rattle.cf_tuple.specs.declared.Tid.{Tid}
 use Rattle.cf_table.specs.declared.Gid.{Gid}
 use Rattle.cf_table.specs.declared.BConn.{BConn}
 
--- A table as contracts see it: the groupings, level by level, the return tuples, and the pairs of patterns whose product
--- it has kept, in the order in which they came. An id's number is its place.
+-- A table as contracts see it: the groupings, level by level, the return tuples, and the pairs and the triples of
+-- patterns whose product it has kept, in the order in which they came. An id's number is its place.
 pub record Groupings : Type 0 where
   pub levels : Levels
   pub tuples : List (List ℕ)
   pub products : List (Pattern × Pattern)
+  pub triples : List (Pattern × Pattern × Pattern)
 
 -- the two groupings of level 0, no other grouping, no return tuple and no product
 abbrev pub only_base : Groupings
-only_base = record { levels = (no_node ∷ no_node ∷ []) ∷ [] ∷ [] ∷ [] ∷ [] ∷ [] ∷ [] ∷ [] ∷ []; tuples = []; products = [] }
+only_base = record { levels = (no_node ∷ no_node ∷ []) ∷ [] ∷ [] ∷ [] ∷ [] ∷ [] ∷ [] ∷ [] ∷ []; tuples = []; products = []; triples = [] }
 
 -- The table has the grouping.
 abbrev pub Owns : Groupings → Gid → Type 0
@@ -45,6 +46,10 @@ grouping_pattern t g = record { level = g.level; ranks = pattern t g.level g.at 
 -- the patterns of two groupings
 abbrev pub patterns_of : Levels → Gid → Gid → Pattern × Pattern
 patterns_of t g h = (grouping_pattern t g, grouping_pattern t h)
+
+-- the patterns of three groupings
+abbrev pub three_patterns_of : Levels → Gid → Gid → Gid → Pattern × Pattern × Pattern
+three_patterns_of t f g h = (grouping_pattern t f, grouping_pattern t g, grouping_pattern t h)
 
 -- The two groupings are in the table, at one level, and so is the head, whose pattern and the pairs are the canon of
 -- the pairs of their exits.

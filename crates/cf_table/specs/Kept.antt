@@ -11,7 +11,7 @@ use Rattle.cf_table.specs.declared.ThreeOperands.{ThreeOperands}
 use Rattle.cf_table.specs.declared.TripleProduct.{TripleProduct}
 use Rattle.cf_table.specs.declared.Gid.{Gid}
 use Rattle.cf_table.specs.declared.Classed.{Classed}
-use Rattle.cf_table.specs.Groupings.{Groupings, IsProduct, IsReduction, patterns_of}
+use Rattle.cf_table.specs.Groupings.{Groupings, IsProduct, IsReduction, patterns_of, three_patterns_of}
 use Rattle.cf_table.specs.Triples.{IsTriple}
 
 -- A grouping as it is kept: the place of its A-callee, its B-connections by their places, and the number of its exits.
@@ -58,8 +58,17 @@ shown_levels levels tuples = (no_node ∷ no_node ∷ []) ∷ map (shown_level t
 abbrev pub shown_products : Levels → List (Operands × Product) → List (Pattern × Pattern)
 shown_products t entries = map (λ e. patterns_of t e.0.left e.0.right) entries
 
-abbrev pub shown : List (List Kept) → List (List ℕ) → List (Operands × Product) → Groupings
-shown levels tuples entries = record { levels = shown_levels levels tuples; tuples = tuples; products = shown_products (shown_levels levels tuples) entries }
+-- the triples of patterns whose products are kept
+abbrev pub shown_triples : Levels → List (ThreeOperands × TripleProduct) → List (Pattern × Pattern × Pattern)
+shown_triples t entries = map (λ e. three_patterns_of t e.0.first e.0.second e.0.third) entries
+
+abbrev pub shown : List (List Kept) → List (List ℕ) → List (Operands × Product) → List (ThreeOperands × TripleProduct) → Groupings
+shown levels tuples entries threes = record {
+  levels = shown_levels levels tuples;
+  tuples = tuples;
+  products = shown_products (shown_levels levels tuples) entries;
+  triples = shown_triples (shown_levels levels tuples) threes;
+}
 
 -- The return tuple of a B-connection is in the list.
 abbrev pub IsPackedOver : List (List ℕ) → PackedConnection → Type 0
@@ -107,6 +116,11 @@ Each {A} P entries = (i : ℕ) (e : A) → slice_get entries i ≡ Some e → P 
 abbrev pub KeepsTriple : Levels → ThreeOperands × TripleProduct → Type 0
 KeepsTriple t e = IsTriple t e.0.first e.0.second e.0.third e.1.head e.1.triples.items
 
+-- What a table keeps of products of three groupings: each is one, and no triple of patterns stands twice.
+pub record HoldsTriples (t : Levels) (entries : List (ThreeOperands × TripleProduct)) : Type 0 where
+  pub are : Each (KeepsTriple t) entries
+  pub differ : AllDiffer (shown_triples t entries)
+
 -- The entry is the reduction of its grouping by its classes.
 abbrev pub KeepsReduction : Levels → Classed × Gid → Type 0
 KeepsReduction t e = IsReduction t e.0.grouping e.0.classes.items e.1
@@ -115,5 +129,5 @@ KeepsReduction t e = IsReduction t e.0.grouping e.0.classes.items e.1
 pub record HoldsAll (levels : List (List Kept)) (tuples : List (List ℕ)) (entries : List (Operands × Product)) (threes : List (ThreeOperands × TripleProduct)) (classed : List (Classed × Gid)) : Type 0 where
   pub groupings : Holds levels tuples
   pub products : HoldsProducts (shown_levels levels tuples) entries
-  pub triples : Each (KeepsTriple (shown_levels levels tuples)) threes
+  pub triples : HoldsTriples (shown_levels levels tuples) threes
   pub reductions : Each (KeepsReduction (shown_levels levels tuples)) classed

@@ -21,6 +21,7 @@ ghost use Rattle.cf_table.specs.Groupings.{
   node_of,
   pattern_of,
   patterns_of,
+  three_patterns_of,
   IsProduct,
   IsProductOf,
   IsReduction,
@@ -33,7 +34,7 @@ ghost use Rattle.cf_table.specs.Groupings.{
   KeepsPatterns,
   IsFirstOf,
 };
-ghost use Rattle.cf_table.specs.Triples.{IsTriple};
+ghost use Rattle.cf_table.specs.Triples.{IsTriple, IsTripleOf};
 ghost use Rattle.cf_table.specs.Kept.{kept_of, shown_node, shown_levels, IsKept, IsEnteredAt, Holds};
 
 use cf_tuple::{NoMemory, Tid, TupleBook};
@@ -145,7 +146,8 @@ impl Model for Table {
 
     ghost Value = { Groupings };
 
-    ghost view = { λ table. shown table.levels table.book table.products.entries };
+    ghost view = { λ table.
+        shown table.levels table.book table.products.entries table.triples.entries };
 
     ghost invariant = { λ table. HoldsAll table.levels table.book
         table.products.entries table.triples.entries table.reductions.entries };
@@ -205,6 +207,7 @@ impl Table {
         ensures differ { AllDiffer self.now.tuples }
         ensures eight { length self.now.levels ≡ 8 }
         ensures products_differ { AllDiffer self.now.products }
+        ensures triples_differ { AllDiffer self.now.triples }
     {
         let _ = &self.book;
     }
@@ -215,6 +218,7 @@ impl Table {
         ensures kept { Lengthens self.old.tuples self.new.tuples }
         ensures levels { self.new.levels ≡ self.old.levels }
         ensures products { self.new.products ≡ self.old.products }
+        ensures triples { self.new.triples ≡ self.old.triples }
         ensures no_memory { OnErr result (self.new ≡ self.old) }
     {
         self.book.intern(list)
@@ -254,6 +258,7 @@ impl Table {
         ensures patterns { KeepsPatterns self.old.levels self.new.levels }
         ensures tuples { self.new.tuples ≡ self.old.tuples }
         ensures products { self.new.products ≡ self.old.products }
+        ensures triples { self.new.triples ≡ self.old.triples }
         ensures no_memory { OnErr result (self.new ≡ self.old) }
     {
         let level = a.level + 1;
@@ -309,6 +314,7 @@ impl Table {
         ensures place { IfOk result (λ place. place ≡ length self.old.products) }
         ensures levels { self.new.levels ≡ self.old.levels }
         ensures tuples { self.new.tuples ≡ self.old.tuples }
+        ensures triples { self.new.triples ≡ self.old.triples }
         ensures no_memory { OnErr result (self.new ≡ self.old) }
     {
         let place = self.products.len();
@@ -319,7 +325,12 @@ impl Table {
 
     /// The product of three groupings of one level, if the memo has it.
     pub fn triple_of(&self, f: Gid, g: Gid, h: Gid) -> Option<&TripleProduct>
-        ensures { IfSome result (λ r. IsTriple self.now.levels f g h r.now.head r.now.triples.items) }
+        requires first { Owns self.now f }
+        requires second { Owns self.now g }
+        requires third { Owns self.now h }
+        ensures { MatchOption result
+            (IsNew self.now.triples (three_patterns_of self.now.levels f g h))
+            (λ r. IsTriple self.now.levels f g h r.now.head r.now.triples.items) }
     {
         self.triples.get(&ThreeOperands {
             first: f,
@@ -328,7 +339,34 @@ impl Table {
         })
     }
 
-    /// Keeps a product of three groupings.
+    /// The place of such a product in the memo, which it keeps until products are forgotten.
+    pub fn place_of_triple(&self, f: Gid, g: Gid, h: Gid) -> Option<usize>
+        requires first { Owns self.now f }
+        requires second { Owns self.now g }
+        requires third { Owns self.now h }
+        ensures { let k = three_patterns_of self.now.levels f g h in
+            MatchOption result
+            (IsNew self.now.triples k)
+            (λ place. slice_get self.now.triples place ≡ Some k) }
+    {
+        self.triples.get_index_of(&ThreeOperands {
+            first: f,
+            second: g,
+            third: h,
+        })
+    }
+
+    /// The product of three groupings at a place of the memo.
+    pub fn triple_at(&self, place: usize) -> &TripleProduct
+        requires { place < length self.now.triples }
+        ensures { IfSome (slice_get self.now.triples place)
+            (λ k. IsTripleOf self.now.levels k result.now.head result.now.triples.items) }
+    {
+        let (_, product) = self.triples.get_index(place).unwrap();
+        product
+    }
+
+    /// Keeps a product of three groupings that the memo hasn't, and answers its place.
     pub fn keep_triple(
         &mut self,
         f: Gid,
@@ -336,18 +374,26 @@ impl Table {
         h: Gid,
         head: Gid,
         triples: Vec<(u64, u64, u64)>,
-    ) -> Result<(), NoMemory>
-        requires { IsTriple self.old.levels f g h head triples.items }
-        ensures { self.new ≡ self.old }
+    ) -> Result<usize, NoMemory>
+        requires product { IsTriple self.old.levels f g h head triples.items }
+        requires new { IsNew self.old.triples (three_patterns_of self.old.levels f g h) }
+        ensures kept { OnOk result
+            (self.new.triples ≡ self.old.triples ++ three_patterns_of self.old.levels f g h ∷ []) }
+        ensures place { IfOk result (λ place. place ≡ length self.old.triples) }
+        ensures levels { self.new.levels ≡ self.old.levels }
+        ensures tuples { self.new.tuples ≡ self.old.tuples }
+        ensures products { self.new.products ≡ self.old.products }
+        ensures no_memory { OnErr result (self.new ≡ self.old) }
     {
         let operands = ThreeOperands {
             first: f,
             second: g,
             third: h,
         };
+        let place = self.triples.len();
         self.triples
             .insert(operands, TripleProduct { head, triples })?;
-        Ok(())
+        Ok(place)
     }
 
     /// The grouping with each exit replaced by its class, if the memo has it.
@@ -370,6 +416,7 @@ impl Table {
     /// Forgets all products and reductions.
     pub fn forget(&mut self)
         ensures products { self.new.products ≡ [] }
+        ensures triples { self.new.triples ≡ [] }
         ensures levels { self.new.levels ≡ self.old.levels }
         ensures tuples { self.new.tuples ≡ self.old.tuples }
     {
@@ -396,6 +443,7 @@ impl Table {
     /// Forgets all products and reductions where they are more than so many times the groupings.
     pub fn forget_beyond(&mut self, multiple: usize)
         ensures products { (self.new.products ≡ self.old.products) ⊎ (self.new.products ≡ []) }
+        ensures triples { (self.new.triples ≡ self.old.triples) ⊎ (self.new.triples ≡ []) }
         ensures levels { self.new.levels ≡ self.old.levels }
         ensures tuples { self.new.tuples ≡ self.old.tuples }
     {

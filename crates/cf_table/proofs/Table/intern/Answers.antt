@@ -7,7 +7,7 @@ use Rattle.cf_table.specs.Kept.{kept_of, shown_levels}
 use Rattle.cf_table.proofs.Interned.{Leaves, entered}
 use Rattle.cf_table.proofs.Products.{products_kept, shown_kept}
 use Rattle.cf_table.proofs.Reductions.{reductions_kept}
-use Rattle.cf_table.proofs.Triples.{triples_kept}
+use Rattle.cf_table.proofs.Triples.{triples_kept, shown_kept as triples_shown_kept}
 use Rattle.cf_table.proofs.Table.intern.Goals as goal
 
 abbrev before : goal.In_ok-at → Levels
@@ -37,6 +37,9 @@ invariant_of-self-2 c = record {
 
 pub returns-clause-products : goal.returns-clause-products
 returns-clause-products c = shown_kept (before c) (now c) c.self.invariant.groupings.good (all c).extended c.self.inside.products.entries c.self.invariant.products.are ∙ ap (λ (t : Groupings). t.products) c.self.view_is
+
+pub returns-clause-triples : goal.returns-clause-triples
+returns-clause-triples c = triples_shown_kept (before c) (now c) c.self.invariant.groupings.good (all c).extended c.self.inside.triples.entries c.self.invariant.triples.are ∙ ap (λ (t : Groupings). t.triples) c.self.view_is
 
 pub returns-clause-good : goal.returns-clause-good
 returns-clause-good c = (all c).holds.good
