@@ -66,8 +66,8 @@ length_take (x ∷ xs) (suc i) h = ap suc (length_take xs i (omega (arith, h)))
 
 -- one more row
 pub going : (t s u : Groupings) (l : ℕ) (ns : List Connection) (i : ℕ) (bs after : List BConn) (b : BConn) → IsGood t.levels → HasThinned t s l ns i bs → i < length ns → (connection_at ns i).callee < count t.levels l
-    → IsThin u l (row (pattern s.levels l) (connection_at ns i)) (connection_at ns i).returns b → AddsParts s.levels u.levels l b.«to».at → IsGood u.levels → Extends s.levels u.levels → Lengthens s.tuples u.tuples → u.products ≡ s.products → after ≡ bs ++ b ∷ [] → HasThinned t u l ns (i + 1) after
-going t s u l ns i bs after b gt g lt own thin add gu x y same e =
+    → IsThin u l (row (pattern s.levels l) (connection_at ns i)) (connection_at ns i).returns b → AddsParts s.levels u.levels l b.«to».at → IsGood u.levels → Extends s.levels u.levels → Lengthens s.tuples u.tuples → u.products ≡ s.products → u.triples ≡ s.triples → after ≡ bs ++ b ∷ [] → HasThinned t u l ns (i + 1) after
+going t s u l ns i bs after b gt g lt own thin add gu x y same same3 e =
     let n = connection_at ns i in
     let more : take (i + 1) ns ≡ take i ns ++ n ∷ [] = take_more ns i no_connection lt in
     let li : length (take i ns) ≡ i = length_take ns i (omega (arith, lt)) in
@@ -78,6 +78,7 @@ going t s u l ns i bs after b gt g lt own thin add gu x y same e =
       extends = Extends-trans t.levels s.levels u.levels g.extends x;
       longer = Lengthens-trans t.tuples s.tuples u.tuples g.longer y;
       products = same ∙ g.products;
+      triples = same3 ∙ g.triples;
       thin = record {
         long = ap length e ∙ length_push bs b ∙ (let q : length bs + 1 ≡ length (take i ns ++ n ∷ []) = omega (arith, lb, li, length_push (take i ns) n) in q) ∙ sym (ap length more);
         each = λ j lj. (let k : j < i + 1 = omega (arith, lj, ap length more, length_push (take i ns) n, li) in

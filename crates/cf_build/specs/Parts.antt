@@ -26,5 +26,6 @@ pub record HasThinned (before now : Groupings) (l : ℕ) (loose : List Connectio
   pub extends : Extends before.levels now.levels
   pub longer : Lengthens before.tuples now.tuples
   pub products : now.products ≡ before.products
+  pub triples : now.triples ≡ before.triples
   pub thin : AreThin now l (pattern before.levels l) (take done loose) bs
   pub added : AddsPartsOf before.levels now.levels l bs

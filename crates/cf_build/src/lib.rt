@@ -57,6 +57,7 @@ fn reduce_numbered(
     ensures patterns { KeepsPatterns table.old.levels table.new.levels }
     ensures tuples { Lengthens table.old.tuples table.new.tuples }
     ensures products { table.new.products ≡ table.old.products }
+    ensures triples { table.new.triples ≡ table.old.triples }
 {
     table.law();
     merge(alloc, table, g, classes)
@@ -76,6 +77,7 @@ pub fn reduce(alloc: Global, table: &mut Table, g: Gid, classes: &[u64]) -> Resu
     ensures patterns { KeepsPatterns table.old.levels table.new.levels }
     ensures tuples { Lengthens table.old.tuples table.new.tuples }
     ensures products { table.new.products ≡ table.old.products }
+    ensures triples { table.new.triples ≡ table.old.triples }
 {
     table.law();
     if are_numbered(classes) {
@@ -109,6 +111,7 @@ pub fn assemble_rows<T: Label>(
     ensures patterns { KeepsPatterns table.old.levels table.new.levels }
     ensures tuples { Lengthens table.old.tuples table.new.tuples }
     ensures products { table.new.products ≡ table.old.products }
+    ensures triples { table.new.triples ≡ table.old.triples }
 {
     table.law();
     let (places, labels) = rows.places();
@@ -137,6 +140,7 @@ pub fn assemble<T: Label>(
     ensures patterns { KeepsPatterns table.old.levels table.new.levels }
     ensures tuples { Lengthens table.old.tuples table.new.tuples }
     ensures products { table.new.products ≡ table.old.products }
+    ensures triples { table.new.triples ≡ table.old.triples }
 {
     table.law();
     let rows = gathered(alloc, rows)?;

@@ -96,6 +96,7 @@ pub(crate) fn merge(
     ensures extends { Extends table.old.levels table.new.levels }
     ensures longer { Lengthens table.old.tuples table.new.tuples }
     ensures products { table.new.products ≡ table.old.products }
+    ensures triples { table.new.triples ≡ table.old.triples }
 {
     if is_rising(classes) {
         return Ok(g);
@@ -130,6 +131,7 @@ fn thin(alloc: Global, table: &mut Table, g: Gid, labels: &[u64]) -> Result<BCon
     ensures extends { Extends table.old.levels table.new.levels }
     ensures longer { Lengthens table.old.tuples table.new.tuples }
     ensures products { table.new.products ≡ table.old.products }
+    ensures triples { table.new.triples ≡ table.old.triples }
 {
     if are_few_and_differ(labels) {
         let ret = table.intern_tuple(labels)?;
@@ -166,6 +168,7 @@ fn thin_rows(
     ensures extends { Extends table.old.levels table.new.levels }
     ensures longer { Lengthens table.old.tuples table.new.tuples }
     ensures products { table.new.products ≡ table.old.products }
+    ensures triples { table.new.triples ≡ table.old.triples }
 {
     for i in 0..rows.len() {
         let row = rows[i];
@@ -198,6 +201,7 @@ pub(crate) fn join(
     ensures extends { Extends table.old.levels table.new.levels }
     ensures longer { Lengthens table.old.tuples table.new.tuples }
     ensures products { table.new.products ≡ table.old.products }
+    ensures triples { table.new.triples ≡ table.old.triples }
 {
     let mut conns = SmallVec::with_capacity(alloc, rows.len())?;
     thin_rows(alloc, table, a.level, rows, labels, &mut conns)?;

@@ -172,7 +172,7 @@ thin_rows-loop-i-preserved t c =
     subst (λ (v : List ℕ). IsThin c.thin.new.table r.callee.level (row (pattern now.levels r.callee.level) (returning r.callee.at v)) v b) c.labels_of.ensures c.in_ok-conn.ensures.thin in
     let thin2 : IsThin c.thin.new.table l (row (pattern now.levels l) (row_connection ls r)) (labels_in ls r) b = subst (λ (m : ℕ). IsThin c.thin.new.table m (row (pattern now.levels m) (row_connection ls r)) (labels_in ls r) b) lev thin1 in
     let thin3 : IsThin c.thin.new.table l (row (pattern now.levels l) (connection_at ns i)) (connection_at ns i).returns b = subst (λ (n : Connection). IsThin c.thin.new.table l (row (pattern now.levels l) n) n.returns b) (sym at) thin2 in
-    going c.args.table.now now c.thin.new.table l ns i c.loop-i.conns.items c.push.new.self.items b c.requires.good c.loop-i.invariant lt w.callee_exists thin3 (subst (λ (m : ℕ). AddsParts now.levels c.thin.new.table.levels m b.«to».at) lev c.in_ok-conn.ensures.added) c.in_ok-conn.ensures.good c.in_ok-conn.ensures.extends c.in_ok-conn.ensures.longer c.in_ok-conn.ensures.products c.in_ok-push.ensures.ok
+    going c.args.table.now now c.thin.new.table l ns i c.loop-i.conns.items c.push.new.self.items b c.requires.good c.loop-i.invariant lt w.callee_exists thin3 (subst (λ (m : ℕ). AddsParts now.levels c.thin.new.table.levels m b.«to».at) lev c.in_ok-conn.ensures.added) c.in_ok-conn.ensures.good c.in_ok-conn.ensures.extends c.in_ok-conn.ensures.longer c.in_ok-conn.ensures.products c.in_ok-conn.ensures.triples c.in_ok-push.ensures.ok
 
 pub join-returns-clause-added : goal.join-returns-clause-added
 join-returns-clause-added t c =
