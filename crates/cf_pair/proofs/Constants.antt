@@ -10,10 +10,11 @@ use Rattle.cf_model.proofs.RenumberingLaws.{canon-map}
 use Rattle.cf_model.proofs.Canonicity.{level_holds}
 use Rattle.cf_table.specs.declared.Gid.{Gid}
 use Rattle.cf_build.specs.Assembling.{HasCanon}
-use Rattle.cf_pair.specs.declared.tripling.Place.{Place}
-use Rattle.cf_pair.specs.declared.tripling.Place.TheVariants.{First, Second, Third}
+use Rattle.cf_pair.specs.declared.middle_triples.Place.{Place}
+use Rattle.cf_pair.specs.declared.middle_triples.Place.TheVariants.{First, Second, Third}
 use Rattle.cf_table.specs.Triples.{zip3}
-use Rattle.cf_pair.specs.Products.{after_zero, before_zero, twice, at_place, zero_put}
+use Rattle.cf_pair.specs.Products.{after_zero, before_zero, twice}
+use Rattle.cf_pair.specs.Triples.{at_place, zero_put}
 
 numbers_read : (n : ℕ) (p : List ℕ) → Under n p → map (slice_get (range_with_len 0 n)) p ≡ map Some p
 numbers_read n [] u = refl

@@ -14,7 +14,8 @@ use Rattle.cf_table.specs.Groupings.{Groupings, connection_of, patterns_of, IsPr
 use Rattle.cf_table.specs.Triples.{zip3, IsTriple}
 use Rattle.cf_table.specs.Goodness.{IsGoodOver}
 use Rattle.cf_build.specs.Assembling.{Rowed, HasCanon, AddsOnly}
-use Rattle.cf_pair.specs.Products.{connection_row, row_triples, Lists, AddsPartsOf, GainsRow, IsReturned, IsAdded}
+use Rattle.cf_pair.specs.Products.{connection_row, Lists, AddsPartsOf, GainsRow, IsReturned, IsAdded}
+use Rattle.cf_pair.specs.Triples.{row_triples}
 use Rattle.cf_pair.proofs.Pushing.{gains_so}
 use Rattle.cf_pair.specs.Charges.{pair_work, IsCharged}
 use Rattle.cf_pair.proofs.Bounds.{charged_self, still_new, pair_kept, sub_self, failed}

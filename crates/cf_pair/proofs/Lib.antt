@@ -6,4 +6,5 @@ pub mod Constants
 pub mod Bounds
 pub mod Keeping
 pub mod PairPlaces
+pub mod TriplePlaces
 pub mod Pushing

@@ -17,7 +17,8 @@ use Rattle.cf_pair.specs.declared.middles.Middles.TheVariants.{Formula, Kept}
 use Rattle.cf_pair.specs.Products.{pattern_pairs, pairs_at, IsPlace, IsPairsOf, IsPairedAt}
 use Rattle.cf_pair.proofs.Bounds.{pair_kept}
 
-read_left : {A : Type 0} (xs ys : List A) (i : ℕ) → i < length xs → slice_get (xs ++ ys) i ≡ slice_get xs i
+-- what stands in the first of two lists
+pub read_left : {A : Type 0} (xs ys : List A) (i : ℕ) → i < length xs → slice_get (xs ++ ys) i ≡ slice_get xs i
 read_left [] ys i h = absurd (omega (arith, h))
 read_left (x ∷ xs) ys zero h = refl
 read_left (x ∷ xs) ys (suc i) h = read_left xs ys i (omega (arith, h))

@@ -16,8 +16,6 @@ use Rattle.cf_pair.specs.declared.middles.Middles.TheVariants.{Formula, Kept}
 use Rattle.cf_pair.specs.declared.plain.Meeting.{Meeting}
 use Rattle.cf_pair.specs.declared.plain.Meeting.TheVariants.{Equal, AfterZero, BeforeZero}
 use Rattle.cf_pair.specs.declared.plain.Plain.{Plain}
-use Rattle.cf_pair.specs.declared.tripling.Place.{Place}
-use Rattle.cf_pair.specs.declared.tripling.Place.TheVariants.{First, Second, Third}
 
 -- an exit beside exit 0, which comes first
 abbrev pub after_zero : ℕ → ℕ × ℕ
@@ -55,18 +53,6 @@ abbrev pub IsPlace : List (Pattern × Pattern) → Middles → Type 0
 IsPlace products (Formula plain) = Unit {0}
 IsPlace products (Kept place) = place < length products
 
--- the one of three at a place
-abbrev pub at_place : {A : Type 0} → Place → A → A → A → A
-at_place First x y z = x
-at_place Second x y z = y
-at_place Third x y z = z
-
--- a pair of exits with exit 0 at a place among them
-abbrev pub zero_put : Place → ℕ × ℕ → ℕ × ℕ × ℕ
-zero_put First p = (0, p.0, p.1)
-zero_put Second p = (p.0, 0, p.1)
-zero_put Third p = (p.0, p.1, 0)
-
 -- the outer exits to which a pair of exits returns, by two return tuples
 abbrev pub returned2 : List ℕ → List ℕ → ℕ × ℕ → ℕ × ℕ
 returned2 xs ys p = (get_or xs p.0 0, get_or ys p.1 0)
@@ -79,14 +65,11 @@ returned3 xs ys zs t = (get_or xs t.0 0, get_or ys t.1 0, get_or zs t.2 0)
 abbrev pub connection_row : Groupings → ℕ → BConn → List ℕ
 connection_row t l b = row (pattern t.levels l) (connection_of t.tuples b)
 
--- the pairs of exits that two B-connections lead to, and the triples that three do, over those assignments
+-- the pairs of exits that two B-connections lead to, over those assignments
 abbrev pub row_pairs : Groupings → BConn → BConn → List (ℕ × ℕ)
 row_pairs t b c = zip (connection_row t b.«to».level b) (connection_row t b.«to».level c)
 
-abbrev pub row_triples : Groupings → BConn → BConn → BConn → List (ℕ × ℕ × ℕ)
-row_triples t x y z = zip3 (connection_row t x.«to».level x) (connection_row t x.«to».level y) (connection_row t x.«to».level z)
-
--- A grouping of the table `now` and a list are the product of two groupings of the table `before`, and of three.
+-- A grouping of the table `now` and a list are the product of two groupings of the table `before`.
 abbrev pub IsPairsOf : (before now : Groupings) → Gid → Gid → Gid → List (ℕ × ℕ) → Type 0
 IsPairsOf before now g h head pairs = HasCanon now.levels head g.level (zip (pattern_of before g) (pattern_of before h)) pairs
 
@@ -94,10 +77,6 @@ IsPairsOf before now g h head pairs = HasCanon now.levels head g.level (zip (pat
 pub record IsPairedAt (before now : Groupings) (g h head : Gid) (middles : Middles) : Type 0 where
   pub there : IsPlace now.products middles
   pub pairs : IsPairsOf before now g h head (pairs_at now.products middles)
-
-abbrev pub IsTriplesOf : (before now : Groupings) → Gid → Gid → Gid → Gid → List (ℕ × ℕ × ℕ) → Type 0
-IsTriplesOf before now f g h head triples =
-    HasCanon now.levels head f.level (zip3 (pattern_of before f) (pattern_of before g) (pattern_of before h)) triples
 
 -- The table has gained only what the grouping is made of.
 abbrev pub AddsPartsOf : (before now : Groupings) → Gid → Type 0

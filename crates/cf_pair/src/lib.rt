@@ -1,6 +1,7 @@
 // Products: the grouping of the pairs, or of the triples, of the exits of groupings.
 #![tactic(auto)]
 
+mod middle_triples;
 mod middles;
 mod pairing;
 mod plain;
@@ -80,5 +81,7 @@ pub fn triple<L: Ledger>(
     ensures tuples { Lengthens table.old.tuples table.new.tuples }
 {
     table.law();
-    triple_groupings(alloc, table, f, g, h, steps)
+    let (head, middles) = triple_groupings(alloc, table, f, g, h, steps)?;
+    let triples = middles.triples(alloc, table)?;
+    Ok((head, triples))
 }

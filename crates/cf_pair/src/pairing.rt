@@ -139,6 +139,7 @@ pub(crate) fn pair_groupings<L: Ledger>(
     ensures good { IsGood table.new.levels }
     ensures extends { Extends table.old.levels table.new.levels }
     ensures longer { Lengthens table.old.tuples table.new.tuples }
+    ensures triples { table.new.triples ≡ table.old.triples }
     ensures charged { IsChargedFor table.old table.new g h
         (suc g.level) 0 steps.old steps.new (is_ok result) }
 {
@@ -170,6 +171,7 @@ fn pair_parts<L: Ledger>(
     ensures good { IsGood table.new.levels }
     ensures extends { Extends table.old.levels table.new.levels }
     ensures longer { Lengthens table.old.tuples table.new.tuples }
+    ensures triples { table.new.triples ≡ table.old.triples }
     ensures charged { let own = 2 * pair_work (patterns_of table.old.levels g h) in
         IsChargedFor table.old table.new g h g.level own steps.old steps.new (is_ok result) }
 {
@@ -201,6 +203,7 @@ fn pair_row<L: Ledger>(
     ensures good { IsGood table.new.levels }
     ensures extends { Extends table.old.levels table.new.levels }
     ensures longer { Lengthens table.old.tuples table.new.tuples }
+    ensures triples { table.new.triples ≡ table.old.triples }
     ensures charged { IsChargedFor table.old table.new b.«to» c.«to»
         (suc b.«to».level) 0 steps.old steps.new (is_ok result) }
 {
@@ -250,6 +253,7 @@ fn pair_rows<L: Ledger>(
     ensures good { IsGood table.new.levels }
     ensures extends { Extends table.old.levels table.new.levels }
     ensures longer { Lengthens table.old.tuples table.new.tuples }
+    ensures triples { table.new.triples ≡ table.old.triples }
     ensures charged { let own = 2 * length (pairs_at table.old.products middles) in
         IsChargedFor table.old table.new g h g.level own steps.old steps.new (is_ok result) }
 {

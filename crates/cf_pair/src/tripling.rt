@@ -1,16 +1,16 @@
 //! The recursion of the triple product, as that of the pair product.
 
-ghost use Rattle.std.specs.Prelude.{◌≡◌, ◌≢◌, ◌<◌, ◌≤◌, ◌-◌, ◌++◌, [], length, map, All, false, IfOk, IfSome, OnOk, MatchOption, slice_index_or};
+ghost use Rattle.std.specs.Prelude.{◌≡◌, ◌≢◌, ◌<◌, ◌≤◌, ◌-◌, ◌++◌, [], suc, length, map, All, IfOk, OnOk, MatchOption, slice_index_or};
 ghost use Rattle.std.specs.List.{zip};
 ghost use Rattle.cf_model.specs.Diagrams.{pattern, IsGood, Extends};
 ghost use Rattle.cf_tuple.specs.Books.{Lengthens};
 ghost use Rattle.cf_table.specs.Groupings.{Owns, node_of, pattern_of, exits_of};
 ghost use Rattle.cf_table.specs.Goodness.{IsGoodOver};
 ghost use Rattle.cf_build.specs.Assembling.{ended, HasCanon};
-ghost use Rattle.cf_table.specs.Triples.{zip3};
-ghost use Rattle.cf_pair.specs.Products.{at_place, zero_put, returned3, row_triples, triple_word, pairs_at, IsPlace, IsTriplesOf, AddsPartsOf, ListEach, AddsOnlyIn, GainsRow, IsReturned, IsAdded};
+ghost use Rattle.cf_pair.specs.Products.{returned3, triple_word, AddsPartsOf, ListEach, AddsOnlyIn, GainsRow, IsReturned, IsAdded};
+ghost use Rattle.cf_pair.specs.Triples.{at_place, zero_put, row_triples, triples_at, IsTriplePlace, IsTriplesOf, IsTripledAt, IsNewTriple, KeepsProducts};
 
-use crate::middles::Middles;
+use crate::middle_triples::{Place, TripleMiddles};
 use crate::pairing::pair_groupings;
 use cf_build::{Rows, assemble_rows};
 use cf_table::steps::Steps;
@@ -19,22 +19,8 @@ use cf_tuple::NoMemory;
 use std::alloc::Global;
 use std::sync::ledger::Ledger;
 
-/// A place among three exits.
-#[derive(Clone, Copy)]
-enum Place {
-    First,
-    Second,
-    Third,
-}
-
 /// At level 0 bit 0 leads to exit 0, and bit 1 to the last exit.
-fn triple_bases(
-    alloc: Global,
-    table: &Table,
-    f: Gid,
-    g: Gid,
-    h: Gid,
-) -> Result<(Gid, Vec<(u64, u64, u64)>), NoMemory>
+fn triple_bases(table: &Table, f: Gid, g: Gid, h: Gid) -> (Gid, TripleMiddles)
     requires first_level { f.level ≡ 0 }
     requires second_level { g.level ≡ 0 }
     requires third_level { h.level ≡ 0 }
@@ -42,47 +28,13 @@ fn triple_bases(
     requires first { Owns table.now f }
     requires second { Owns table.now g }
     requires third { Owns table.now h }
-    ensures { IfOk result (λ r. HasCanon table.now.levels r.0 0
-        (zip3 (pattern_of table.now f) (pattern_of table.now g) (pattern_of table.now h)) r.1.items) }
+    ensures { IsTripledAt table.now table.now f g h result.0 result.1 }
 {
     let last = (table.exits(f) - 1, table.exits(g) - 1, table.exits(h) - 1);
-    let mut triples = Vec::new(alloc);
-    triples.push((0, 0, 0))?;
     if last == (0, 0, 0) {
-        return Ok((DONT_CARE, triples));
+        return (DONT_CARE, TripleMiddles::DontCare);
     }
-    triples.push(last)?;
-    Ok((FORK, triples))
-}
-
-/// The pair with exit 0 at a place.
-fn with_zero(place: Place, pair: (u64, u64)) -> (u64, u64, u64)
-    ensures { result ≡ zero_put place pair }
-{
-    let (left, right) = pair;
-    match place {
-        Place::First => (0, left, right),
-        Place::Second => (left, 0, right),
-        Place::Third => (left, right, 0),
-    }
-}
-
-/// Each pair of a product with exit 0 at a place.
-fn pairs_with_zero(
-    alloc: Global,
-    table: &Table,
-    place: Place,
-    pairs: Middles,
-) -> Result<Vec<(u64, u64, u64)>, NoMemory>
-    requires { IsPlace table.now.products pairs }
-    ensures { IfOk result (λ v. v.items ≡ map (zero_put place) (pairs_at table.now.products pairs)) }
-{
-    let count = pairs.len(table);
-    let mut triples = Vec::with_capacity(alloc, count)?;
-    for i in 0..count {
-        triples.push(with_zero(place, pairs.pair(table, i)))?;
-    }
-    Ok(triples)
+    (FORK, TripleMiddles::Fork(last.0, last.1, last.2))
 }
 
 /// The product of two groupings of one level, each pair with exit 0 at a place.
@@ -93,22 +45,24 @@ fn pair_with_zero<L: Ledger>(
     g: Gid,
     h: Gid,
     steps: &mut Steps<L>,
-) -> Result<(Gid, Vec<(u64, u64, u64)>), NoMemory>
+) -> Result<(Gid, TripleMiddles), NoMemory>
     requires level { g.level ≤ 7 }
     requires levels { h.level ≡ g.level }
     requires good { IsGood table.old.levels }
     requires first { Owns table.old g }
     requires second { Owns table.old h }
+    ensures there { IfOk result (λ r. IsTriplePlace table.new r.1) }
     ensures paired { IfOk result (λ r. HasCanon table.new.levels r.0 g.level
-        (map (zero_put place) (zip (pattern_of table.old g) (pattern_of table.old h))) r.1.items) }
+        (map (zero_put place) (zip (pattern_of table.old g) (pattern_of table.old h)))
+        (triples_at table.new r.1)) }
     ensures added { IfOk result (λ r. AddsPartsOf table.old table.new r.0) }
     ensures good { IsGood table.new.levels }
     ensures extends { Extends table.old.levels table.new.levels }
     ensures longer { Lengthens table.old.tuples table.new.tuples }
+    ensures kept { OnOk result (KeepsProducts table.old table.new 0) }
 {
     let (product, pairs) = pair_groupings(alloc, table, g, h, steps)?;
-    let triples = pairs_with_zero(alloc, table, place, pairs)?;
-    Ok((product, triples))
+    Ok((product, TripleMiddles::Beside(place, pairs)))
 }
 
 /// The first place among three groupings of one that has a single exit.
@@ -142,7 +96,7 @@ fn beside_constant<L: Ledger>(
     g: Gid,
     h: Gid,
     steps: &mut Steps<L>,
-) -> Result<(Gid, Vec<(u64, u64, u64)>), NoMemory>
+) -> Result<(Gid, TripleMiddles), NoMemory>
     requires level { f.level ≤ 7 }
     requires second_level { g.level ≡ f.level }
     requires third_level { h.level ≡ f.level }
@@ -151,11 +105,12 @@ fn beside_constant<L: Ledger>(
     requires second { Owns table.old g }
     requires third { Owns table.old h }
     requires constant { exits_of table.old (at_place place f g h) ≡ 1 }
-    ensures tripled { IfOk result (λ r. IsTriplesOf table.old table.new f g h r.0 r.1.items) }
+    ensures tripled { IfOk result (λ r. IsTripledAt table.old table.new f g h r.0 r.1) }
     ensures added { IfOk result (λ r. AddsPartsOf table.old table.new r.0) }
     ensures good { IsGood table.new.levels }
     ensures extends { Extends table.old.levels table.new.levels }
     ensures longer { Lengthens table.old.tuples table.new.tuples }
+    ensures kept { OnOk result (KeepsProducts table.old table.new 0) }
 {
     match place {
         Place::First => pair_with_zero(alloc, table, place, g, h, steps),
@@ -189,12 +144,45 @@ fn push_triples(
     Ok(())
 }
 
+/// The same for the triples of a product, where they stand.
+fn push_middles(
+    table: &Table,
+    rows: &mut Rows<(u64, u64, u64)>,
+    middles: TripleMiddles,
+    left: &[u64],
+    middle: &[u64],
+    right: &[u64],
+) -> Result<(), NoMemory>
+    requires place { IsTriplePlace table.now middles }
+    requires within { All (λ t.
+        (t.0 < length left.now) × (t.1 < length middle.now) × (t.2 < length right.now))
+        (triples_at table.now middles) }
+    ensures { OnOk result (rows.new ≡ record rows.old {
+      begun = rows.old.begun
+          ++ map (returned3 left.now middle.now right.now) (triples_at table.now middles);
+    }) }
+{
+    if let TripleMiddles::Kept(place) = middles {
+        let triples = table.triple_at(place).triples.as_slice();
+        return push_triples(rows, triples, left, middle, right);
+    }
+    for i in 0..middles.len(table) {
+        let triple = middles.triple(table, i);
+        rows.push_label((
+            left[triple.0 as usize],
+            middle[triple.1 as usize],
+            right[triple.2 as usize],
+        ))?;
+    }
+    Ok(())
+}
+
 /// Appends the row to which the return tuples of three B-connections map the product of their
 /// callees.
 fn push_returned(
     table: &Table,
     to: Gid,
-    triples: &[(u64, u64, u64)],
+    middles: TripleMiddles,
     x: BConn,
     y: BConn,
     z: BConn,
@@ -204,14 +192,15 @@ fn push_returned(
     requires first { IsGoodOver table.now x.«to».level x }
     requires second { IsGoodOver table.now x.«to».level y }
     requires third { IsGoodOver table.now x.«to».level z }
-    requires product { IsTriplesOf table.now table.now x.«to» y.«to» z.«to» «to» triples.now }
+    requires product { IsTripledAt table.now table.now x.«to» y.«to» z.«to» «to» middles }
     requires ended { rows.old.begun ≡ [] }
     ensures { OnOk result (GainsRow rows.old rows.new
         (IsReturned table.now.levels «to» x.«to».level (row_triples table.now x y z))) }
 {
-    push_triples(
+    push_middles(
+        table,
         rows,
-        triples,
+        middles,
         table.tuple(x.ret),
         table.tuple(y.ret),
         table.tuple(z.ret),
@@ -220,36 +209,22 @@ fn push_returned(
 }
 
 /// The product of three groupings of one level, if the memo has it.
-fn kept_product(
-    alloc: Global,
-    table: &Table,
-    f: Gid,
-    g: Gid,
-    h: Gid,
-) -> Result<Option<(Gid, Vec<(u64, u64, u64)>)>, NoMemory>
-    ensures { IfOk result (λ o. IfSome o
-        (λ r. IsTriplesOf table.now table.now f g h r.0 r.1.items)) }
-{
-    match table.triple_of(f, g, h) {
-        Some(product) => {
-            let triples = Vec::from_slice(alloc, product.triples.as_slice())?;
-            Ok(Some((product.head, triples)))
-        }
-        None => Ok(None),
-    }
-}
-
-/// Whether the product of three groupings of one level is that of fewer, or of level 0.
-fn is_plain(table: &Table, f: Gid, g: Gid, h: Gid) -> bool
+fn kept_product(table: &Table, f: Gid, g: Gid, h: Gid) -> Option<(Gid, TripleMiddles)>
     requires first { Owns table.now f }
     requires second { Owns table.now g }
     requires third { Owns table.now h }
-    ensures { result ≡ false → 1 ≤ f.level }
+    ensures { MatchOption result
+        (IsNewTriple table.now f g h)
+        (λ r. IsTripledAt table.now table.now f g h r.0 r.1) }
 {
-    f.level == 0 || place_of_constant(table, f, g, h).is_some()
+    match table.place_of_triple(f, g, h) {
+        Some(place) => Some((table.triple_at(place).head, TripleMiddles::Kept(place))),
+        None => None,
+    }
 }
 
-/// The product of three groupings of one level, from the memo if it is there.
+/// The product of three groupings of one level, from the memo if it is there. No list of its
+/// triples is made but the one that the memo keeps.
 #[cycle(triple)]
 pub(crate) fn triple_groupings<L: Ledger>(
     alloc: Global,
@@ -258,7 +233,7 @@ pub(crate) fn triple_groupings<L: Ledger>(
     g: Gid,
     h: Gid,
     steps: &mut Steps<L>,
-) -> Result<(Gid, Vec<(u64, u64, u64)>), NoMemory>
+) -> Result<(Gid, TripleMiddles), NoMemory>
     requires level { f.level ≤ 7 }
     requires second_level { g.level ≡ f.level }
     requires third_level { h.level ≡ f.level }
@@ -266,25 +241,25 @@ pub(crate) fn triple_groupings<L: Ledger>(
     requires first { Owns table.old f }
     requires second { Owns table.old g }
     requires third { Owns table.old h }
-    ensures tripled { IfOk result (λ r. IsTriplesOf table.old table.new f g h r.0 r.1.items) }
+    ensures tripled { IfOk result (λ r. IsTripledAt table.old table.new f g h r.0 r.1) }
     ensures added { IfOk result (λ r. AddsPartsOf table.old table.new r.0) }
     ensures good { IsGood table.new.levels }
     ensures extends { Extends table.old.levels table.new.levels }
     ensures longer { Lengthens table.old.tuples table.new.tuples }
+    ensures kept { OnOk result (KeepsProducts table.old table.new (suc f.level)) }
 {
     if f.level == 0 {
-        return triple_bases(alloc, table, f, g, h);
+        return Ok(triple_bases(table, f, g, h));
     }
     if let Some(place) = place_of_constant(table, f, g, h) {
         return beside_constant(alloc, table, place, f, g, h, steps);
     }
-    if let Some(product) = kept_product(alloc, table, f, g, h)? {
-        return Ok(product);
+    if let Some(known) = kept_product(table, f, g, h) {
+        return Ok(known);
     }
     let (head, triples) = triple_parts(alloc, table, f, g, h, steps)?;
-    let kept = Vec::from_slice(alloc, triples.as_slice())?;
-    table.keep_triple(f, g, h, head, kept)?;
-    Ok((head, triples))
+    let place = table.keep_triple(f, g, h, head, triples)?;
+    Ok((head, TripleMiddles::Kept(place)))
 }
 
 /// The product of three groupings of one level above 0, from the products of what they are made of.
@@ -310,13 +285,14 @@ fn triple_parts<L: Ledger>(
     ensures good { IsGood table.new.levels }
     ensures extends { Extends table.old.levels table.new.levels }
     ensures longer { Lengthens table.old.tuples table.new.tuples }
+    ensures kept { OnOk result (KeepsProducts table.old table.new f.level) }
 {
     let a = table.a_of(f, steps);
     let b = table.a_of(g, steps);
     let c = table.a_of(h, steps);
     let (callee, middles) = triple_groupings(alloc, table, a, b, c, steps)?;
-    let mut rows = Rows::new(alloc, middles.len())?;
-    triple_rows(alloc, table, f, g, h, middles.as_slice(), &mut rows, steps)?;
+    let mut rows = Rows::new(alloc, middles.len(table))?;
+    triple_rows(alloc, table, f, g, h, middles, &mut rows, steps)?;
     assemble_rows(alloc, table, callee, &rows)
 }
 
@@ -342,25 +318,10 @@ fn triple_row<L: Ledger>(
     ensures good { IsGood table.new.levels }
     ensures extends { Extends table.old.levels table.new.levels }
     ensures longer { Lengthens table.old.tuples table.new.tuples }
+    ensures kept { OnOk result (KeepsProducts table.old table.new (suc x.«to».level)) }
 {
-    if is_plain(table, x.to, y.to, z.to) {
-        let (to, triples) = triple_groupings(alloc, table, x.to, y.to, z.to, steps)?;
-        return push_returned(table, to, triples.as_slice(), x, y, z, rows);
-    }
-    if let Some(product) = table.triple_of(x.to, y.to, z.to) {
-        return push_returned(
-            table,
-            product.head,
-            product.triples.as_slice(),
-            x,
-            y,
-            z,
-            rows,
-        );
-    }
-    let (to, triples) = triple_parts(alloc, table, x.to, y.to, z.to, steps)?;
-    push_returned(table, to, triples.as_slice(), x, y, z, rows)?;
-    table.keep_triple(x.to, y.to, z.to, to, triples)
+    let (to, middles) = triple_groupings(alloc, table, x.to, y.to, z.to, steps)?;
+    push_returned(table, to, middles, x, y, z, rows)
 }
 
 /// Appends a row for each three middle vertices.
@@ -371,7 +332,7 @@ fn triple_rows<L: Ledger>(
     f: Gid,
     g: Gid,
     h: Gid,
-    middles: &[(u64, u64, u64)],
+    middles: TripleMiddles,
     rows: &mut Rows<(u64, u64, u64)>,
     steps: &mut Steps<L>,
 ) -> Result<(), NoMemory>
@@ -383,27 +344,29 @@ fn triple_rows<L: Ledger>(
     requires first { Owns table.old f }
     requires second { Owns table.old g }
     requires third { Owns table.old h }
+    requires place { IsTriplePlace table.old middles }
     requires middles { All (λ m.
         (m.0 < length (node_of table.old f).connections)
         × (m.1 < length (node_of table.old g).connections)
-        × (m.2 < length (node_of table.old h).connections)) middles.now }
+        × (m.2 < length (node_of table.old h).connections)) (triples_at table.old middles) }
     requires none { rows.old ≡ ended [] }
     ensures rows { OnOk result (ListEach table.new.levels (f.level - 1)
         (λ i. triple_word (pattern table.old.levels (f.level - 1))
         (node_of table.old f).connections
         (node_of table.old g).connections
         (node_of table.old h).connections
-        (slice_index_or middles.now i (0, 0, 0)))
-        (length middles.now) rows.new.rows) }
+        (slice_index_or (triples_at table.old middles) i (0, 0, 0)))
+        (length (triples_at table.old middles)) rows.new.rows) }
     ensures ended { OnOk result (rows.new.begun ≡ []) }
     ensures added { OnOk result
         (AddsOnlyIn table.old.levels table.new.levels (f.level - 1) rows.new.rows) }
     ensures good { IsGood table.new.levels }
     ensures extends { Extends table.old.levels table.new.levels }
     ensures longer { Lengthens table.old.tuples table.new.tuples }
+    ensures kept { OnOk result (KeepsProducts table.old table.new f.level) }
 {
-    for i in 0..middles.len() {
-        let middle = middles[i];
+    for i in 0..middles.len(table) {
+        let middle = middles.triple(table, i);
         let x = table.b_of(f, middle.0, steps);
         let y = table.b_of(g, middle.1, steps);
         let z = table.b_of(h, middle.2, steps);

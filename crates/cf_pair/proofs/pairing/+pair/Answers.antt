@@ -97,6 +97,7 @@ pair_rows-loop-i-preserved g t c =
       listed = listed_more old now new l (λ i. pair_word (pattern old.levels l) (node old.levels k c.args.g.at).connections (node old.levels c.args.h.level c.args.h.at).connections (get_or (pairs_at old.products c.args.middles) i (0, 0))) c.loop-i.i c.loop-i.rows.rows c.pair_row.new.rows.rows r c.loop-i.invariant.listed here added
           c.in_ok-pair_row.ensures.good c.in_ok-pair_row.ensures.extends c.in_ok-pair_row.ensures.longer (ap (λ (s : Rowed (ℕ × ℕ)). s.rows) gained.is_last);
       ended = ap (λ (s : Rowed (ℕ × ℕ)). s.begun) gained.is_last;
+      triples = c.in_ok-pair_row.ensures.triples ∙ c.loop-i.invariant.triples;
       charged = (let inv = c.loop-i.invariant.charged in
           charged_then old.products now.products new.products (patterns_of old.levels c.args.g c.args.h).0 (patterns_of old.levels c.args.g c.args.h).1 (patterns_of now.levels b.«to» d.«to»).0 (patterns_of now.levels b.«to» d.«to»).1 k (suc b.«to».level) (2 * (c.loop-i.i + 1)) (2 * c.loop-i.i) 0
           c.args.steps.now c.loop-i.steps c.b_of-c.new.steps c.pair_row.new.steps true inv c.in_ok-pair_row.ensures.charged
@@ -270,6 +271,7 @@ pair_rows-loop-i-init g t c =
     record {
       listed = listed_none _ _ _ _ c.requires.good (ap (λ (s : Rowed (ℕ × ℕ)). s.rows) none);
       ended = ap (λ (s : Rowed (ℕ × ℕ)). s.begun) none;
+      triples = refl;
       charged = charged_none _ _ _ _ _ _ _ _ _ refl (omega arith);
     }
 

@@ -21,5 +21,6 @@ abbrev pub invariant-pair_rows-loop-i : goal.invariant-pair_rows-loop-i
 invariant-pair_rows-loop-i g l = record {
   listed : HasListed l.fn.table l.table (l.fn.g.level - 1) (λ i. pair_word (pattern l.fn.table.levels (l.fn.g.level - 1)) (node_of l.fn.table l.fn.g).connections (node_of l.fn.table l.fn.h).connections (get_or (pairs_at l.fn.table.products l.middles) i (0, 0))) l.i l.rows.rows;
   ended : l.rows.begun ≡ [];
+  triples : l.table.triples ≡ l.fn.table.triples;
   charged : IsCharged l.fn.table.products l.table.products (patterns_of l.fn.table.levels l.fn.g l.fn.h).0 (patterns_of l.fn.table.levels l.fn.g l.fn.h).1 l.fn.g.level (2 * l.i) l.fn.steps l.steps true;
 }

@@ -1,11 +1,11 @@
-use Rattle.std.proofs.Common.{rules, ◌≡◌, ℕ, ◌<◌, ◌≤◌, ◌+◌, ◌*◌, ◌-◌, List, length, sym, ap, ◌∙◌, subst, arith, get_or}
+use Rattle.std.proofs.Common.{rules, refl, suc, ◌≡◌, ℕ, ◌<◌, ◌≤◌, ◌+◌, ◌*◌, ◌-◌, List, length, sym, ap, ◌∙◌, subst, arith, get_or}
 use Rattle.cf_model.specs.Patterns.{sub}
-use Rattle.cf_model.specs.Diagrams.{connection_at, count, node, row, pattern}
+use Rattle.cf_model.specs.Diagrams.{Node, connection_at, count, node, row, pattern}
 use Rattle.cf_model.proofs.Canonicity.{level_holds}
 use Rattle.cf_model.proofs.Growing.{exits_kept}
 use Rattle.cf_table.specs.Groupings.{connection_of}
 use Rattle.cf_table.specs.Goodness.{IsGoodOver}
-use Rattle.cf_build.specs.Assembling.{Rowed, IsRow, HasCanon, AddsOnly}
+use Rattle.cf_build.specs.Assembling.{Rowed, IsRow, AddsOnly}
 use Rattle.cf_build.proofs.Turns.{if_ok2}
 use Rattle.cf_table.specs.Triples.{zip3}
 use Rattle.cf_pair.specs.Products.{triple_word, Lists, ListEach, AddsOnlyIn}
@@ -14,12 +14,43 @@ use Rattle.cf_pair.proofs.Pairs.{read_good, read_row}
 use Rattle.cf_pair.proofs.Triples.{TripleCall, call_range, assembly3}
 use Rattle.cf_model.specs.Diagrams.{Levels}
 use Rattle.std.proofs.lemmas.Result.{on_ok_weaker}
-use Rattle.cf_pair.proofs.Pushing.{gains_so, on_ok_always}
-use Rattle.cf_table.specs.Groupings.{Groupings}
-use Rattle.cf_table.specs.Triples.{IsTriple}
-use Rattle.cf_pair.specs.Products.{row_triples, GainsRow, IsAdded}
+use Rattle.cf_pair.proofs.Pushing.{on_ok_always}
+use Rattle.cf_pair.specs.Triples.{triples_at, IsNewTriple}
+use Rattle.cf_pair.proofs.TriplePlaces.{triple_read, triple_has, kept_at, keeps_all, keeps_then, keeps_weaker, keeps_one, still_new}
+use Rattle.cf_table.proofs.Told.{none_of}
+use Rattle.cf_pair.proofs.Zips.{Three}
 use Rattle.cf_pair.proofs.Keeping.{good_over_kept, canon3_kept, is_triple, returned_added}
 use Rattle.cf_pair.proofs.tripling.+triple.Goals as goal
+
+pub triple_rows-b_of-x-requires-clause-middle : goal.triple_rows-b_of-x-requires-clause-middle
+triple_rows-b_of-x-requires-clause-middle g t c =
+    let old = c.args.table.now in
+    let now = c.loop-i.table in
+    let m = c.triple-middle.result in
+    let in_ =
+    triple_has (Three (length (node old.levels c.args.f.level c.args.f.at).connections) (length (node old.levels c.args.g.level c.args.g.at).connections) (length (node old.levels c.args.h.level c.args.h.at).connections))
+    old now c.args.f.level c.args.middles c.requires.place c.loop-i.invariant.kept c.requires.middles c.loop-i.i (omega (arith, c.loop-i-test.true, c.len-i-end.ensures)) m c.triple-middle.ensures in
+    omega (arith, in_.0, ap (λ (d : Node). length d.connections) (c.loop-i.invariant.listed.extends.kept c.args.f.level c.args.f.at c.requires.first))
+
+pub triple_rows-b_of-y-requires-clause-middle : goal.triple_rows-b_of-y-requires-clause-middle
+triple_rows-b_of-y-requires-clause-middle g t c =
+    let old = c.args.table.now in
+    let now = c.loop-i.table in
+    let m = c.triple-middle.result in
+    let in_ =
+    triple_has (Three (length (node old.levels c.args.f.level c.args.f.at).connections) (length (node old.levels c.args.g.level c.args.g.at).connections) (length (node old.levels c.args.h.level c.args.h.at).connections))
+    old now c.args.f.level c.args.middles c.requires.place c.loop-i.invariant.kept c.requires.middles c.loop-i.i (omega (arith, c.loop-i-test.true, c.len-i-end.ensures)) m c.triple-middle.ensures in
+    omega (arith, in_.1, ap (λ (d : Node). length d.connections) (c.loop-i.invariant.listed.extends.kept c.args.g.level c.args.g.at c.requires.second))
+
+pub triple_rows-b_of-z-requires-clause-middle : goal.triple_rows-b_of-z-requires-clause-middle
+triple_rows-b_of-z-requires-clause-middle g t c =
+    let old = c.args.table.now in
+    let now = c.loop-i.table in
+    let m = c.triple-middle.result in
+    let in_ =
+    triple_has (Three (length (node old.levels c.args.f.level c.args.f.at).connections) (length (node old.levels c.args.g.level c.args.g.at).connections) (length (node old.levels c.args.h.level c.args.h.at).connections))
+    old now c.args.f.level c.args.middles c.requires.place c.loop-i.invariant.kept c.requires.middles c.loop-i.i (omega (arith, c.loop-i-test.true, c.len-i-end.ensures)) m c.triple-middle.ensures in
+    omega (arith, in_.2, ap (λ (d : Node). length d.connections) (c.loop-i.invariant.listed.extends.kept c.args.h.level c.args.h.at c.requires.third))
 
 pub triple_rows-triple_row-requires : goal.triple_rows-triple_row-requires
 triple_rows-triple_row-requires g t c κs within =
@@ -28,8 +59,10 @@ triple_rows-triple_row-requires g t c κs within =
     let ext = c.loop-i.invariant.listed.extends in
     let k = c.args.f.level in
     let l = k - 1 in
-    let m = get_or c.args.middles.now c.loop-i.i (0, 0, 0) in
-    let in_ = c.requires.middles c.loop-i.i (0, 0, 0) c.loop-i-test.true in
+    let m = c.triple-middle.result in
+    let in_ =
+    triple_has (Three (length (node old.levels c.args.f.level c.args.f.at).connections) (length (node old.levels c.args.g.level c.args.g.at).connections) (length (node old.levels c.args.h.level c.args.h.at).connections))
+    old now c.args.f.level c.args.middles c.requires.place c.loop-i.invariant.kept c.requires.middles c.loop-i.i (omega (arith, c.loop-i-test.true, c.len-i-end.ensures)) m c.triple-middle.ensures in
     let x = c.b_of-x.result in
     let y = c.b_of-y.result in
     let z = c.b_of-z.result in
@@ -54,8 +87,10 @@ triple_rows-loop-i-preserved g t c =
     let ext = c.loop-i.invariant.listed.extends in
     let k = c.args.f.level in
     let l = k - 1 in
-    let m = get_or c.args.middles.now c.loop-i.i (0, 0, 0) in
-    let in_ = c.requires.middles c.loop-i.i (0, 0, 0) c.loop-i-test.true in
+    let m = c.triple-middle.result in
+    let in_ =
+    triple_has (Three (length (node old.levels c.args.f.level c.args.f.at).connections) (length (node old.levels c.args.g.level c.args.g.at).connections) (length (node old.levels c.args.h.level c.args.h.at).connections))
+    old now c.args.f.level c.args.middles c.requires.place c.loop-i.invariant.kept c.requires.middles c.loop-i.i (omega (arith, c.loop-i-test.true, c.len-i-end.ensures)) m c.triple-middle.ensures in
     let x = c.b_of-x.result in
     let y = c.b_of-y.result in
     let z = c.b_of-z.result in
@@ -79,11 +114,13 @@ triple_rows-loop-i-preserved g t c =
     let word = triple_word (pattern old.levels l) (node old.levels k c.args.f.at).connections (node old.levels c.args.g.level c.args.g.at).connections (node old.levels c.args.h.level c.args.h.at).connections in
     let wanted : Lists new.levels l (word m) r =
     subst (λ (v : List (ℕ × ℕ × ℕ)). Lists new.levels l v r) (ap (λ (v : List ℕ). zip3 v ry rz) ex ∙ ap (λ (v : List ℕ). zip3 wx v rz) ey ∙ ap (λ (v : List ℕ). zip3 wx wy v) ez) lists in
+    let here : Lists new.levels l (word (get_or (triples_at old c.args.middles) c.loop-i.i (0, 0, 0))) r = subst (λ (t : ℕ × ℕ × ℕ). Lists new.levels l (word t) r) (triple_read old now k c.args.middles c.requires.place c.loop-i.invariant.kept c.loop-i.i m c.triple-middle.ensures) wanted in
     let added : AddsOnly now.levels new.levels (sub l (pattern new.levels l r.0.at)) = subst (λ (i : ℕ). AddsOnly now.levels new.levels (sub i (pattern new.levels i r.0.at))) lev gained.is_asked.added in
     record {
-      listed = listed_more old now new l (λ i. word (get_or c.args.middles.now i (0, 0, 0))) c.loop-i.i c.loop-i.rows.rows c.triple_row.new.rows.rows r c.loop-i.invariant.listed wanted added
+      listed = listed_more old now new l (λ i. word (get_or (triples_at old c.args.middles) i (0, 0, 0))) c.loop-i.i c.loop-i.rows.rows c.triple_row.new.rows.rows r c.loop-i.invariant.listed here added
           c.in_ok-triple_row.ensures.good c.in_ok-triple_row.ensures.extends c.in_ok-triple_row.ensures.longer (ap (λ (s : Rowed (ℕ × ℕ × ℕ)). s.rows) gained.is_last);
       ended = ap (λ (s : Rowed (ℕ × ℕ × ℕ)). s.begun) gained.is_last;
+      kept = keeps_then old now new k (suc x.«to».level) k (omega arith) (omega (arith, lev, below)) c.loop-i.invariant.kept c.in_ok-triple_row.ensures.kept;
     }
 
 pub triple_rows-loop-i-init : goal.triple_rows-loop-i-init
@@ -92,13 +129,14 @@ triple_rows-loop-i-init g t c =
     record {
       listed = listed_none _ _ _ _ c.requires.good (ap (λ (s : Rowed (ℕ × ℕ × ℕ)). s.rows) none);
       ended = ap (λ (s : Rowed (ℕ × ℕ × ℕ)). s.begun) none;
+      kept = keeps_all _ _ _ refl refl;
     }
 
 pub triple_parts-triple_rows-requires : goal.triple_parts-triple_rows-requires
 triple_parts-triple_rows-requires g t c κs within =
     let old = c.args.table.now.levels in
     let new = c.triple_groupings.new.table.levels in
-    let ms = c.as_slice.result.now in
+    let ms = triples_at c.triple_groupings.new.table c.in_ok-callee.middles in
     let e = c.in_ok-callee.callee in
     let w : TripleCall old new c.args.f c.args.g c.args.h c.a_of-a.result c.a_of-b.result c.a_of-c.result e ms = record {
       good = c.requires.good;
@@ -116,7 +154,7 @@ triple_parts-triple_rows-requires g t c κs within =
       c_is = c.a_of-c.ensures.callee;
       good1 = c.in_ok-callee.ensures.good;
       extends1 = c.in_ok-callee.ensures.extends;
-      canon = subst (λ (v : List (ℕ × ℕ × ℕ)). HasCanon new e c.a_of-a.result.level (zip3 (pattern old c.a_of-a.result.level c.a_of-a.result.at) (pattern old c.a_of-b.result.level c.a_of-b.result.at) (pattern old c.a_of-c.result.level c.a_of-c.result.at)) v) (sym c.as_slice.ensures.value) c.in_ok-callee.ensures.tripled;
+      canon = c.in_ok-callee.ensures.tripled.triples;
     } in
     let k = c.args.f.level in
     let x = c.in_ok-callee.ensures.extends in
@@ -132,8 +170,8 @@ pub triple_parts-assemble_rows-requires-clause-middles : goal.triple_parts-assem
 triple_parts-assemble_rows-requires-clause-middles g t c =
     let new = c.triple_groupings.new.table.levels in
     let e = c.in_ok-callee.callee in
-    let p = c.in_ok-callee.ensures.tripled in
-    c.in_ok-triple_rows.ensures.rows.long ∙ ap length c.as_slice.ensures.value ∙ sym p.canon.reached
+    let p = c.in_ok-callee.ensures.tripled.triples in
+    c.in_ok-triple_rows.ensures.rows.long ∙ sym p.canon.reached
     ∙ (level_holds new c.in_ok-callee.ensures.good e.level).reaches e.at p.there ∙ sym (exits_kept new c.triple_rows.new.table.levels c.in_ok-triple_rows.ensures.extends e.level e.at p.there)
 
 pub triple_parts-assemble_rows-requires-clause-rows : goal.triple_parts-assemble_rows-requires-clause-rows
@@ -141,14 +179,14 @@ triple_parts-assemble_rows-requires-clause-rows g t c k d lk =
     let v = c.triple_rows.new.table.levels in
     let w = c.in_ok-triple_rows.ensures.rows in
     let r = (w.each k d (omega (arith, lk, w.long))).is_row in
-    let lev : c.args.f.level - 1 ≡ c.in_ok-callee.callee.level = omega (arith, c.in_ok-callee.ensures.tripled.level, c.a_of-a.ensures.level) in
+    let lev : c.args.f.level - 1 ≡ c.in_ok-callee.callee.level = omega (arith, c.in_ok-callee.ensures.tripled.triples.level, c.a_of-a.ensures.level) in
     subst (λ (l : ℕ). IsRow v l (get_or c.triple_rows.new.rows.rows k d)) lev r
 
 pub triple_parts-returns-clause-tripled : goal.triple_parts-returns-clause-tripled
 triple_parts-returns-clause-tripled g t c =
     let old = c.args.table.now.levels in
     let new = c.triple_groupings.new.table.levels in
-    let ms = c.as_slice.result.now in
+    let ms = triples_at c.triple_groupings.new.table c.in_ok-callee.middles in
     let e = c.in_ok-callee.callee in
     let w : TripleCall old new c.args.f c.args.g c.args.h c.a_of-a.result c.a_of-b.result c.a_of-c.result e ms = record {
       good = c.requires.good;
@@ -166,7 +204,7 @@ triple_parts-returns-clause-tripled g t c =
       c_is = c.a_of-c.ensures.callee;
       good1 = c.in_ok-callee.ensures.good;
       extends1 = c.in_ok-callee.ensures.extends;
-      canon = subst (λ (v : List (ℕ × ℕ × ℕ)). HasCanon new e c.a_of-a.result.level (zip3 (pattern old c.a_of-a.result.level c.a_of-a.result.at) (pattern old c.a_of-b.result.level c.a_of-b.result.at) (pattern old c.a_of-c.result.level c.a_of-c.result.at)) v) (sym c.as_slice.ensures.value) c.in_ok-callee.ensures.tripled;
+      canon = c.in_ok-callee.ensures.tripled.triples;
     } in
     let v = c.triple_rows.new.table.levels in
     let rows = c.triple_rows.new.rows.rows in
@@ -180,7 +218,7 @@ pub triple_parts-returns-clause-added : goal.triple_parts-returns-clause-added
 triple_parts-returns-clause-added g t c =
     let old = c.args.table.now.levels in
     let new = c.triple_groupings.new.table.levels in
-    let ms = c.as_slice.result.now in
+    let ms = triples_at c.triple_groupings.new.table c.in_ok-callee.middles in
     let e = c.in_ok-callee.callee in
     let w : TripleCall old new c.args.f c.args.g c.args.h c.a_of-a.result c.a_of-b.result c.a_of-c.result e ms = record {
       good = c.requires.good;
@@ -198,7 +236,7 @@ triple_parts-returns-clause-added g t c =
       c_is = c.a_of-c.ensures.callee;
       good1 = c.in_ok-callee.ensures.good;
       extends1 = c.in_ok-callee.ensures.extends;
-      canon = subst (λ (v : List (ℕ × ℕ × ℕ)). HasCanon new e c.a_of-a.result.level (zip3 (pattern old c.a_of-a.result.level c.a_of-a.result.at) (pattern old c.a_of-b.result.level c.a_of-b.result.at) (pattern old c.a_of-c.result.level c.a_of-c.result.at)) v) (sym c.as_slice.ensures.value) c.in_ok-callee.ensures.tripled;
+      canon = c.in_ok-callee.ensures.tripled.triples;
     } in
     let v = c.triple_rows.new.table.levels in
     let rows = c.triple_rows.new.rows.rows in
@@ -208,16 +246,51 @@ triple_parts-returns-clause-added g t c =
     if_ok2 c.assemble_rows.result _ _ _ c.assemble_rows.ensures.assembled c.assemble_rows.ensures.added
     (λ r s x. (assembly3 old new v c.assemble_rows.new.table.levels c.args.f c.args.g c.args.h c.a_of-a.result c.a_of-b.result c.a_of-c.result e ms rows r.0 r.1.items w c.in_ok-triple_rows.ensures.good c.in_ok-triple_rows.ensures.extends listed c.assemble_rows.ensures.good c.assemble_rows.ensures.kept s c.in_ok-callee.ensures.added added x).1)
 
-pub triple_groupings-keep_triple-requires : goal.triple_groupings-keep_triple-requires
-triple_groupings-keep_triple-requires g t c =
-    let new = c.triple_parts.new.table.levels in
+pub triple_parts-returns-clause-kept : goal.triple_parts-returns-clause-kept
+triple_parts-returns-clause-kept g t c =
+    let old = c.args.table.now in
+    let u = c.triple_groupings.new.table in
+    let v = c.triple_rows.new.table in
+    let w = c.assemble_rows.new.table in
+    let k = c.args.f.level in
+    let rows = keeps_then old u v (suc c.a_of-a.result.level) k k (omega (arith, c.a_of-a.ensures.level)) (omega arith) c.in_ok-callee.ensures.kept c.in_ok-triple_rows.ensures.kept in
+    on_ok_always c.assemble_rows.result (keeps_then old v w k k k (omega arith) (omega arith) rows (keeps_all v w k c.assemble_rows.ensures.products c.assemble_rows.ensures.triples))
+
+pub triple_groupings-returns-then-f-eq0-clause-kept : goal.triple_groupings-returns-then-f-eq0-clause-kept
+triple_groupings-returns-then-f-eq0-clause-kept g t c = keeps_all _ _ _ refl refl
+
+pub triple_groupings-returns-in-Some-clause-kept : goal.triple_groupings-returns-in-Some-clause-kept
+triple_groupings-returns-in-Some-clause-kept g t c =
+    on_ok_weaker c.beside_constant.result (keeps_weaker c.args.table.now c.beside_constant.new.table 0 (suc c.args.f.level) (omega arith)) c.beside_constant.ensures.kept
+
+pub triple_groupings-returns-in-Some-kept_product-clause-kept : goal.triple_groupings-returns-in-Some-kept_product-clause-kept
+triple_groupings-returns-in-Some-kept_product-clause-kept g t c = keeps_all _ _ _ refl refl
+
+pub triple_groupings-keep_triple-requires-clause-product : goal.triple_groupings-keep_triple-requires-clause-product
+triple_groupings-keep_triple-requires-clause-product g t c =
     let q = c.in_ok-head.ensures in
-    subst (λ (ts : List (ℕ × ℕ × ℕ)). IsTriple new c.args.f c.args.g c.args.h c.in_ok-head.head ts) (sym (c.in_ok-kept.ensures.items ∙ c.as_slice.ensures.value))
-    (is_triple c.args.table.now.levels new c.requires.good q.extends c.args.f c.args.g c.args.h c.in_ok-head.head c.in_ok-head.triples.items c.requires.first c.requires.second c.requires.third q.tripled)
+    is_triple c.args.table.now.levels c.triple_parts.new.table.levels c.requires.good q.extends c.args.f c.args.g c.args.h c.in_ok-head.head c.in_ok-head.triples.items c.requires.first c.requires.second c.requires.third q.tripled
+
+pub triple_groupings-keep_triple-requires-clause-new : goal.triple_groupings-keep_triple-requires-clause-new
+triple_groupings-keep_triple-requires-clause-new g t c =
+    let q = c.in_ok-head.ensures in
+    let unknown : IsNewTriple c.args.table.now c.args.f c.args.g c.args.h = none_of c.kept_product.result _ _ c.in_default-kept_product.not-Some c.kept_product.ensures in
+    still_new c.args.table.now c.triple_parts.new.table c.requires.good q.extends c.args.f c.args.g c.args.h c.requires.first c.requires.second c.requires.third unknown q.kept
+
+pub triple_groupings-returns-clause-tripled : goal.triple_groupings-returns-clause-tripled
+triple_groupings-returns-clause-tripled g t c =
+    let q = c.in_ok-head.ensures in
+    let k = c.in_ok-place.ensures in
+    kept_at c.args.table.now c.triple_parts.new.table c.keep_triple.new.self c.requires.good q.extends c.args.f c.args.g c.args.h c.in_ok-head.head c.in_ok-place.place c.in_ok-head.triples.items c.requires.first c.requires.second c.requires.third k.levels k.kept k.place q.tripled
 
 pub triple_groupings-returns-clause-added : goal.triple_groupings-returns-clause-added
 triple_groupings-returns-clause-added g t c =
-    subst (λ (u : Levels). AddsOnly c.args.table.now.levels u (sub c.in_ok-head.head.level (pattern u c.in_ok-head.head.level c.in_ok-head.head.at))) (sym (ap (λ (t : Groupings). t.levels) c.keep_triple.ensures)) c.in_ok-head.ensures.added
+    subst (λ (u : Levels). AddsOnly c.args.table.now.levels u (sub c.in_ok-head.head.level (pattern u c.in_ok-head.head.level c.in_ok-head.head.at))) (sym c.in_ok-place.ensures.levels) c.in_ok-head.ensures.added
+
+pub triple_groupings-returns-clause-kept : goal.triple_groupings-returns-clause-kept
+triple_groupings-returns-clause-kept g t c =
+    let k = c.in_ok-place.ensures in
+    keeps_one c.args.table.now c.triple_parts.new.table c.keep_triple.new.self c.args.f c.args.g c.args.h c.in_ok-head.ensures.kept k.products k.kept
 
 pub triple_row-push_returned-requires : goal.triple_row-push_returned-requires
 triple_row-push_returned-requires g t c =
@@ -231,48 +304,19 @@ triple_row-push_returned-requires g t c =
       first = good_over_kept old new q.extends q.longer c.args.x.«to».level c.args.x c.requires.first;
       second = good_over_kept old new q.extends q.longer c.args.x.«to».level c.args.y c.requires.second;
       third = good_over_kept old new q.extends q.longer c.args.x.«to».level c.args.z c.requires.third;
-      product = subst (λ (ts : List (ℕ × ℕ × ℕ)). HasCanon new.levels c.in_ok-to.«to» c.args.x.«to».level (zip3 (pattern new.levels c.args.x.«to».level c.args.x.«to».at) (pattern new.levels c.args.y.«to».level c.args.y.«to».at) (pattern new.levels c.args.z.«to».level c.args.z.«to».at)) ts) (sym c.as_slice.ensures.value)
-          (canon3_kept old.levels new.levels c.requires.good q.extends c.args.x.«to» c.args.y.«to» c.args.z.«to» c.in_ok-to.«to» c.in_ok-to.triples.items c.requires.first.good.callee_exists own_y own_z q.tripled);
+      product = record {
+        there = q.tripled.there;
+        triples = canon3_kept old.levels new.levels c.requires.good q.extends c.args.x.«to» c.args.y.«to» c.args.z.«to» c.in_ok-to.«to» (triples_at new c.in_ok-to.middles) c.requires.first.good.callee_exists own_y own_z q.tripled.triples;
+      };
       ended = c.requires.ended;
     }
-
-pub triple_row-returns-then-is_plain-clause-row : goal.triple_row-returns-then-is_plain-clause-row
-triple_row-returns-then-is_plain-clause-row g t c =
-    on_ok_weaker c.push_returned.result
-    (returned_added c.args.table.now c.triple_groupings.new.table c.requires.good c.in_ok-to.ensures.extends c.in_ok-to.ensures.longer c.args.x c.args.y c.args.z c.requires.first c.requires.second c.requires.third c.in_ok-to.«to» c.in_ok-to.ensures.tripled.level c.in_ok-to.ensures.added
-    c.args.rows.now c.push_returned.new.rows) c.push_returned.ensures
-
-pub triple_row-returns-in-Some-clause-row : goal.triple_row-returns-in-Some-clause-row
-triple_row-returns-in-Some-clause-row g t c =
-    on_ok_weaker c.push_returned-in-Some.result (gains_so _ _ c.args.rows.now c.push_returned-in-Some.new.rows (λ r h. record { lists = h.lists; added = λ k j ge lt. absurd (omega (arith, ge, lt)) })) c.push_returned-in-Some.ensures
-
-pub triple_row-push_returned-requires-2 : goal.triple_row-push_returned-requires-2
-triple_row-push_returned-requires-2 g t c =
-    let own_y : c.args.y.«to».at < count c.args.table.now.levels c.args.y.«to».level = subst (λ (m : ℕ). c.args.y.«to».at < count c.args.table.now.levels m) (sym c.requires.second.over.level) c.requires.second.good.callee_exists in
-    let own_z : c.args.z.«to».at < count c.args.table.now.levels c.args.z.«to».level = subst (λ (m : ℕ). c.args.z.«to».at < count c.args.table.now.levels m) (sym c.requires.third.over.level) c.requires.third.good.callee_exists in
-    let old = c.args.table.now in
-    let new = c.triple_parts.new.table in
-    let q = c.in_ok-to-2.ensures in
-    record {
-      good = q.good;
-      first = good_over_kept old new q.extends q.longer c.args.x.«to».level c.args.x c.requires.first;
-      second = good_over_kept old new q.extends q.longer c.args.x.«to».level c.args.y c.requires.second;
-      third = good_over_kept old new q.extends q.longer c.args.x.«to».level c.args.z c.requires.third;
-      product = subst (λ (ts : List (ℕ × ℕ × ℕ)). HasCanon new.levels c.in_ok-to-2.«to» c.args.x.«to».level (zip3 (pattern new.levels c.args.x.«to».level c.args.x.«to».at) (pattern new.levels c.args.y.«to».level c.args.y.«to».at) (pattern new.levels c.args.z.«to».level c.args.z.«to».at)) ts) (sym c.as_slice-2.ensures.value)
-          (canon3_kept old.levels new.levels c.requires.good q.extends c.args.x.«to» c.args.y.«to» c.args.z.«to» c.in_ok-to-2.«to» c.in_ok-to-2.triples.items c.requires.first.good.callee_exists own_y own_z q.tripled);
-      ended = c.requires.ended;
-    }
-
-pub triple_row-keep_triple-requires : goal.triple_row-keep_triple-requires
-triple_row-keep_triple-requires g t c =
-    let own_y : c.args.y.«to».at < count c.args.table.now.levels c.args.y.«to».level = subst (λ (m : ℕ). c.args.y.«to».at < count c.args.table.now.levels m) (sym c.requires.second.over.level) c.requires.second.good.callee_exists in
-    let own_z : c.args.z.«to».at < count c.args.table.now.levels c.args.z.«to».level = subst (λ (m : ℕ). c.args.z.«to».at < count c.args.table.now.levels m) (sym c.requires.third.over.level) c.requires.third.good.callee_exists in
-    is_triple c.args.table.now.levels c.triple_parts.new.table.levels c.requires.good c.in_ok-to-2.ensures.extends c.args.x.«to» c.args.y.«to» c.args.z.«to» c.in_ok-to-2.«to» c.in_ok-to-2.triples.items c.requires.first.good.callee_exists own_y own_z c.in_ok-to-2.ensures.tripled
 
 pub triple_row-returns-clause-row : goal.triple_row-returns-clause-row
 triple_row-returns-clause-row g t c =
-    let l = c.args.x.«to».level in
-    let gained =
-    returned_added c.args.table.now c.triple_parts.new.table c.requires.good c.in_ok-to-2.ensures.extends c.in_ok-to-2.ensures.longer c.args.x c.args.y c.args.z c.requires.first c.requires.second c.requires.third c.in_ok-to-2.«to» c.in_ok-to-2.ensures.tripled.level c.in_ok-to-2.ensures.added
-    c.args.rows.now c.push_returned-2.new.rows c.in_ok-push_returned.ensures in
-    on_ok_always c.keep_triple.result (subst (λ (u : Groupings). GainsRow c.args.rows.now c.push_returned-2.new.rows (IsAdded c.args.table.now.levels u.levels l (row_triples c.args.table.now c.args.x c.args.y c.args.z))) (sym c.keep_triple.ensures) gained)
+    let q = c.in_ok-to.ensures in
+    on_ok_weaker c.push_returned.result
+    (returned_added c.args.table.now c.triple_groupings.new.table c.requires.good q.extends q.longer c.args.x c.args.y c.args.z c.requires.first c.requires.second c.requires.third c.in_ok-to.«to» q.tripled.triples.level q.added
+    c.args.rows.now c.push_returned.new.rows) c.push_returned.ensures
+
+pub triple_row-returns-clause-kept : goal.triple_row-returns-clause-kept
+triple_row-returns-clause-kept g t c = on_ok_always c.push_returned.result c.in_ok-to.ensures.kept

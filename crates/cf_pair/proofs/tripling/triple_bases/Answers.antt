@@ -1,4 +1,4 @@
-use Rattle.std.proofs.Common.{◌≡◌, ℕ, ◌-◌, List, [], ◌∷◌, ◌++◌, refl, sym, ◌∙◌, ap, subst, arith}
+use Rattle.std.proofs.Common.{◌≡◌, ℕ, ◌-◌, List, [], ◌∷◌, sym, ◌∙◌, ap, subst, arith}
 use Rattle.cf_model.specs.Diagrams.{pattern, exits}
 use Rattle.cf_model.specs.Renumbering.{IsCanon}
 use Rattle.cf_model.proofs.Canonicity.{pattern-dont_care, pattern-fork}
@@ -24,12 +24,14 @@ returns-then-eq c =
     let read : all ≡ none ∷ none ∷ [] = base_triples t c.requires.good c.args.f c.args.g c.args.h c.requires.first_level c.requires.second_level c.requires.third_level c.requires.first c.requires.second c.requires.third
     ∙ ap (λ (m : ℕ). none ∷ last m (exits t c.args.g.level c.args.g.at) (exits t c.args.h.level c.args.h.at) ∷ []) (sym c.exits.ensures) ∙ ap (λ (m : ℕ). none ∷ last x m (exits t c.args.h.level c.args.h.at) ∷ []) (sym c.exits-2.ensures)
     ∙ ap (λ (m : ℕ). none ∷ last x y m ∷ []) (sym c.exits-3.ensures) ∙ ap (λ (p : ℕ × ℕ × ℕ). none ∷ p ∷ []) zero in
-    let triples : c.push.new.self.items ≡ none ∷ [] = c.in_ok-push.ensures.items ∙ ap (λ (v : List (ℕ × ℕ × ℕ)). v ++ none ∷ []) c.new-triples.ensures.items in
     record {
-      level = refl;
-      there = omega (arith, c.requires.good.base);
-      canon = subst (λ (v : List (ℕ × ℕ × ℕ)). IsCanon v (pattern t 0 0) c.push.new.self.items) (sym read) (subst (λ (v : List (ℕ × ℕ × ℕ)). IsCanon (none ∷ none ∷ []) (pattern t 0 0) v) (sym triples)
-          (subst (λ (p : List ℕ). IsCanon (none ∷ none ∷ []) p (none ∷ [])) (sym (pattern-dont_care t)) (canon_same none)));
+      there = tt;
+      triples = record {
+        level = sym c.requires.first_level;
+        there = omega (arith, c.requires.good.base);
+        canon = subst (λ (v : List (ℕ × ℕ × ℕ)). IsCanon v (pattern t 0 0) (none ∷ [])) (sym read)
+            (subst (λ (p : List ℕ). IsCanon (none ∷ none ∷ []) p (none ∷ [])) (sym (pattern-dont_care t)) (canon_same none));
+      };
     }
 
 pub returns : goal.returns
@@ -42,11 +44,12 @@ returns c =
     let read : all ≡ none ∷ last x y z ∷ [] = base_triples t c.requires.good c.args.f c.args.g c.args.h c.requires.first_level c.requires.second_level c.requires.third_level c.requires.first c.requires.second c.requires.third
     ∙ ap (λ (m : ℕ). none ∷ last m (exits t c.args.g.level c.args.g.at) (exits t c.args.h.level c.args.h.at) ∷ []) (sym c.exits.ensures) ∙ ap (λ (m : ℕ). none ∷ last x m (exits t c.args.h.level c.args.h.at) ∷ []) (sym c.exits-2.ensures)
     ∙ ap (λ (m : ℕ). none ∷ last x y m ∷ []) (sym c.exits-3.ensures) in
-    let first : c.push.new.self.items ≡ none ∷ [] = c.in_ok-push.ensures.items ∙ ap (λ (v : List (ℕ × ℕ × ℕ)). v ++ none ∷ []) c.new-triples.ensures.items in
-    let triples : c.push-2.new.self.items ≡ none ∷ last x y z ∷ [] = c.in_ok-push-2.ensures.items ∙ ap (λ (v : List (ℕ × ℕ × ℕ)). v ++ last x y z ∷ []) first in
     record {
-      level = refl;
-      there = omega (arith, c.requires.good.base);
-      canon = subst (λ (v : List (ℕ × ℕ × ℕ)). IsCanon v (pattern t 0 1) c.push-2.new.self.items) (sym read) (subst (λ (v : List (ℕ × ℕ × ℕ)). IsCanon (none ∷ last x y z ∷ []) (pattern t 0 1) v) (sym triples)
-          (subst (λ (p : List ℕ). IsCanon (none ∷ last x y z ∷ []) p (none ∷ last x y z ∷ [])) (sym (pattern-fork t 0)) (canon_two none (last x y z) (not_all_zero (x - 1) (y - 1) (z - 1) (sym c.eq.ensures ∙ c.if-eq.false)))));
+      there = tt;
+      triples = record {
+        level = sym c.requires.first_level;
+        there = omega (arith, c.requires.good.base);
+        canon = subst (λ (v : List (ℕ × ℕ × ℕ)). IsCanon v (pattern t 0 1) (none ∷ last x y z ∷ [])) (sym read)
+            (subst (λ (p : List ℕ). IsCanon (none ∷ last x y z ∷ []) p (none ∷ last x y z ∷ [])) (sym (pattern-fork t 0)) (canon_two none (last x y z) (not_all_zero (x - 1) (y - 1) (z - 1) (sym c.eq.ensures ∙ c.if-eq.false))));
+      };
     }
