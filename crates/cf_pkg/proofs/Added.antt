@@ -1,8 +1,5 @@
 use Rattle.std.proofs.Common.{◌≡◌, ℕ, List, ◌++◌, ◌∙◌, ap, subst}
 use Rattle.std.specs.List.{zip}
-use Rattle.std.specs.Prelude.{◌==◌, ◌&&◌}
-use Rattle.std.specs.Bool.{Decides}
-use Rattle.std.proofs.lemmas.Bool.Decides.{Decides-and, Decides-eqb, Decides-like}
 use Rattle.cf_model.specs.Renumbering.{rgs}
 use Rattle.cf_model.specs.Patterns.{Pattern, sub}
 use Rattle.cf_model.specs.PairSums.{same_pair}
@@ -13,17 +10,12 @@ use Rattle.cf_table.specs.declared.Gid.{Gid}
 use Rattle.cf_table.specs.Groupings.{pattern_of}
 use Rattle.cf_build.specs.Assembling.{HasCanon, AddsOnly}
 use Rattle.cf_table.specs.Triples.{zip3}
+use Rattle.cf_pair.specs.Triples.{same_triple}
+use Rattle.cf_pair.proofs.TriplePlaces.{triple_decides}
 use Rattle.cf_pkg.specs.declared.Func.{Func}
 use Rattle.cf_pkg.specs.Packages.{Package, function_parts}
-use Rattle.cf_pkg.specs.Products.{pair_parts, triple_parts, same_triple}
+use Rattle.cf_pkg.specs.Products.{pair_parts, triple_parts}
 use Rattle.cf_pkg.proofs.Valued.{adds_both}
-
-triple_decides : (s t : ℕ × ℕ × ℕ) → Decides (same_triple s t) (s ≡ t)
-triple_decides s t =
-    Decides-like (same_triple s t)
-    (λ h. ap (λ (a : ℕ). (a, s.1, s.2)) h.0 ∙ ap (λ (b : ℕ). (t.0, b, s.2)) h.1.0 ∙ ap (λ (d : ℕ). (t.0, t.1, d)) h.1.1)
-    (λ e. (ap (λ (r : ℕ × ℕ × ℕ). r.0) e, (ap (λ (r : ℕ × ℕ × ℕ). r.1) e, ap (λ (r : ℕ × ℕ × ℕ). r.2) e)))
-    (Decides-and (s.0 == t.0) (s.1 == t.1 && s.2 == t.2) (Decides-eqb s.0 t.0) (Decides-and (s.1 == t.1) (s.2 == t.2) (Decides-eqb s.1 t.1) (Decides-eqb s.2 t.2)))
 
 -- what a product adds are parts of the pattern of the pairs
 pub pair_added : (p q : Package) (f g : Func) (u : Levels) (r : Gid) (pairs : List (ℕ × ℕ)) (h : Func) → IsGood u → Extends u q.groupings.levels

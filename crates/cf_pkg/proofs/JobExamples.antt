@@ -14,7 +14,7 @@ use Rattle.cf_pkg.specs.Jobs.{apply_value, ternary_value, job_level, job_value, 
 
 -- a package with two functions of each level
 abbrev two_each : Package
-two_each = package_of (record { levels = two_a_level; tuples = []; products = [] }) ((pos 3 ∷ []) ∷ (pos 0 ∷ pos 1 ∷ []) ∷ []) no_job
+two_each = package_of (record { levels = two_a_level; tuples = []; products = []; triples = [] }) ((pos 3 ∷ []) ∷ (pos 0 ∷ pos 1 ∷ []) ∷ []) no_job
 
 -- 3 everywhere
 abbrev three : ℕ → Func

@@ -1,16 +1,13 @@
-use Rattle.std.specs.Prelude.{ℕ, ◌*◌, List, ◌==◌, ◌&&◌, Bool}
+use Rattle.std.specs.Prelude.{ℕ, ◌*◌, List}
 use Rattle.std.specs.List.{zip}
 use Rattle.cf_model.specs.Renumbering.{rgs}
 use Rattle.cf_model.specs.Patterns.{Pattern, sub, work_size}
 use Rattle.cf_model.specs.PairSums.{same_pair}
 use Rattle.cf_table.specs.Groupings.{pattern_of, grouping_pattern}
 use Rattle.cf_table.specs.Triples.{zip3}
+use Rattle.cf_pair.specs.Triples.{same_triple}
 use Rattle.cf_pkg.specs.declared.Func.{Func}
 use Rattle.cf_pkg.specs.Packages.{Package}
-
--- whether two triples are equal
-abbrev pub same_triple : ℕ × ℕ × ℕ → ℕ × ℕ × ℕ → Bool
-same_triple s t = s.0 == t.0 && (s.1 == t.1 && s.2 == t.2)
 
 -- all that the product of two functions' groupings is made of, the pattern of the pairs of their exits
 abbrev pub pair_parts : Package → Func → Func → List Pattern
