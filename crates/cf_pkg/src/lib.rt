@@ -20,7 +20,7 @@ ghost use Rattle.cf_model.specs.Functions.{IsFunction};
 ghost use Rattle.cf_model.specs.Renumbering.{AllDiffer};
 ghost use Rattle.cf_table.specs.Groupings.{Owns, exits_of};
 ghost use Rattle.cf_pkg.specs.Tasks as task;
-ghost use Rattle.cf_pkg.specs.Packages.{no_function, values_of, OwnsFunction, IsRemembered, meaning, Means, Keeps};
+ghost use Rattle.cf_pkg.specs.Packages.{no_function, values_of, OwnsFunction, IsRemembered, meaning, Means, Keeps, HasParts, AddsParts};
 ghost use Rattle.cf_pkg.specs.Jobs.{AnswersFinished};
 
 use cf_bits::Bits;
@@ -131,6 +131,8 @@ impl Pkg {
         requires level { level ≤ 7 }
         ensures level { IfOk result (λ f. f.head.level ≡ level) }
         ensures means { IfOk result (λ f. Means self.new f (tabulated level (λ bits. v))) }
+        ensures added { IfOk result (AddsParts self.old self.new) }
+        ensures parts { IfOk result (HasParts self.new) }
         ensures remembered { IfOk result (IsRemembered self.new (task.Const level v)) }
         ensures finished { AnswersFinished self.old self.new (task.Const level v) result }
         ensures kept { Keeps self.old self.new }
@@ -146,6 +148,8 @@ impl Pkg {
         requires variable { i < 2 ^ level }
         ensures level { IfOk result (λ f. f.head.level ≡ level) }
         ensures means { IfOk result (λ f. Means self.new f (variable level i)) }
+        ensures added { IfOk result (AddsParts self.old self.new) }
+        ensures parts { IfOk result (HasParts self.new) }
         ensures remembered { IfOk result (IsRemembered self.new (task.Var level i)) }
         ensures finished { AnswersFinished self.old self.new (task.Var level i) result }
         ensures kept { Keeps self.old self.new }
