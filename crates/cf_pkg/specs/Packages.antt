@@ -65,6 +65,10 @@ function_parts p f = sub f.head.level (pattern_of p.groupings f.head)
 abbrev pub HasParts : Package → Func → Type 0
 HasParts p f = HasPatterns p.groupings.levels (function_parts p f)
 
+-- The table has gained only groupings of these patterns.
+abbrev pub Adds : (before now : Package) → List Pattern → Type 0
+Adds before now parts = AddsOnly before.groupings.levels now.groupings.levels parts
+
 -- The table has gained only parts of the function's pattern.
 abbrev pub AddsParts : (before now : Package) → Func → Type 0
-AddsParts before now f = AddsOnly before.groupings.levels now.groupings.levels (function_parts now f)
+AddsParts before now f = Adds before now (function_parts now f)

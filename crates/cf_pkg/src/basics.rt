@@ -151,8 +151,10 @@ impl Pkg {
     fn constant_over(&mut self, level: u8, below: Gid) -> Result<Gid, NoMemory>
         requires above { 1 ≤ level }
         requires level { level ≤ 7 }
-        requires below { Stands self.old.groupings.levels below (level - 1) (constant_pattern (level - 1)) }
-        ensures stands { IfOk result (λ g. Stands self.new.groupings.levels g level (constant_pattern level)) }
+        requires below {
+            Stands self.old.groupings.levels below (level - 1) (constant_pattern (level - 1)) }
+        ensures stands { IfOk result (λ g.
+            Stands self.new.groupings.levels g level (constant_pattern level)) }
         ensures added { IfOk result (AddsPartsOf self.old.groupings self.new.groupings) }
         ensures good { IsGood self.new.groupings.levels }
         ensures memo { self.new.memo ≡ self.old.memo }
@@ -167,8 +169,10 @@ impl Pkg {
         requires above { 1 ≤ level }
         requires level { level ≤ 7 }
         requires variable { i < 2 ^ level }
-        requires below { AreBasics self.old.groupings.levels below (level - 1) (i % 2 ^ (level - 1)) }
-        ensures stands { IfOk result (λ g. Stands self.new.groupings.levels g level (variable_pattern level i)) }
+        requires below {
+            AreBasics self.old.groupings.levels below (level - 1) (i % 2 ^ (level - 1)) }
+        ensures stands { IfOk result (λ g.
+            Stands self.new.groupings.levels g level (variable_pattern level i)) }
         ensures added { IfOk result (AddsPartsOf self.old.groupings self.new.groupings) }
         ensures good { IsGood self.new.groupings.levels }
         ensures memo { self.new.memo ≡ self.old.memo }
@@ -205,7 +209,8 @@ impl Pkg {
     #[cycle(constant)]
     fn constant_grouping(&mut self, level: u8) -> Result<Gid, NoMemory>
         requires level { level ≤ 7 }
-        ensures stands { IfOk result (λ g. Stands self.new.groupings.levels g level (constant_pattern level)) }
+        ensures stands { IfOk result (λ g.
+            Stands self.new.groupings.levels g level (constant_pattern level)) }
         ensures added { IfOk result (AddsPartsOf self.old.groupings self.new.groupings) }
         ensures below { FinishesBelow self.old self.new level }
         ensures kept { Keeps self.old self.new }
@@ -248,7 +253,8 @@ impl Pkg {
     fn variable_grouping(&mut self, level: u8, i: u8) -> Result<Gid, NoMemory>
         requires level { level ≤ 7 }
         requires variable { i < 2 ^ level }
-        ensures stands { IfOk result (λ g. Stands self.new.groupings.levels g level (variable_pattern level i)) }
+        ensures stands { IfOk result (λ g.
+            Stands self.new.groupings.levels g level (variable_pattern level i)) }
         ensures added { IfOk result (AddsPartsOf self.old.groupings self.new.groupings) }
         ensures below { FinishesBelow self.old self.new level }
         ensures kept { Keeps self.old self.new }

@@ -128,9 +128,13 @@ pub trait Recipe {
     ) -> Result<(Gid, Vec<i128>), OpFault>
         requires does { does self.now job.now }
         requires in_order { IsInOrder (package_of table.old values.now no_job) job.now }
-        ensures value { IfOk result (λ r. Gives table.new.levels r.0 r.1.items (job_level job.now) (job_value (package_of table.old values.now no_job) job.now)) }
-        ensures overflow { IfOverflow result (IsLeastWithout (job_level job.now) (job_value (package_of table.old values.now no_job) job.now)) }
-        ensures restricted { IsRestriction job.now → IfOk result (λ r. AddsOnly table.old.levels table.new.levels (job_parts (package_of table.old values.now no_job) job.now)) }
+        ensures value { IfOk result (λ r. Gives table.new.levels r.0 r.1.items
+            (job_level job.now) (job_value (package_of table.old values.now no_job) job.now)) }
+        ensures overflow { IfOverflow result (IsLeastWithout
+            (job_level job.now) (job_value (package_of table.old values.now no_job) job.now)) }
+        ensures restricted { IsRestriction job.now → IfOk result (λ r.
+            AddsOnly table.old.levels table.new.levels
+                (job_parts (package_of table.old values.now no_job) job.now)) }
         ensures good { IsGood table.new.levels }
         ensures kept { Extends table.old.levels table.new.levels }
         ensures tuples { Lengthens table.old.tuples table.new.tuples };

@@ -35,6 +35,7 @@ pub use reached::Sizes;
 use std::alloc::Global;
 use std::marker::Model;
 use std::sync::ledger::Ledger;
+pub use words::tree_of_two;
 
 /// A function: a grouping, and the list of the values of its exits.
 #[derive(Clone, Copy, Debug, PartialEq, Eq, Hash)]
@@ -43,8 +44,8 @@ pub struct Func {
     pub vals: Vid,
 }
 
-/// Functions of levels 0 to 7 with values of 128 bits. Equal functions have one `Func`. Each finished
-/// job is remembered, so that doing it again takes no memory and adds nothing.
+/// Functions of levels 0 to 7 with values of 128 bits. Equal functions have one `Func`. Each
+/// finished job is remembered, so that doing it again takes no memory and adds nothing.
 #[derive(Drop)]
 pub struct Pkg {
     alloc: Global,
@@ -119,8 +120,10 @@ impl Pkg {
         ensures good { IsGood self.now.groupings.levels }
         ensures level { f.head.level ≤ 7 }
         ensures once { AllDiffer self.now.lists }
-        ensures function { IsFunction self.now.groupings.levels f.head.level f.head.at (values_of self.now f) }
-        ensures one { (g : Func) → OwnsFunction self.now g → meaning self.now g ≡ meaning self.now f → g ≡ f }
+        ensures function {
+            IsFunction self.now.groupings.levels f.head.level f.head.at (values_of self.now f) }
+        ensures one { (g : Func) → OwnsFunction self.now g →
+            meaning self.now g ≡ meaning self.now f → g ≡ f }
     {
         self.table.law();
         let _ = self.values.get(f.vals);
@@ -177,7 +180,8 @@ impl Pkg {
         requires first { OwnsFunction self.now f }
         requires second { OwnsFunction self.now g }
         requires level { f.head.level ≡ g.head.level }
-        ensures agree { IsTrue result ↔ ((bits : List Bool) → IsAssignment f.head.level bits → value_at (meaning self.now f) bits ≡ value_at (meaning self.now g) bits) }
+        ensures agree { IsTrue result ↔ ((bits : List Bool) → IsAssignment f.head.level bits →
+            value_at (meaning self.now f) bits ≡ value_at (meaning self.now g) bits) }
         ensures one { IsTrue result ↔ (f ≡ g) }
     {
         self.law(f);

@@ -27,7 +27,7 @@ fn tree_of_one(alloc: Global, word: Word1) -> Result<Term, NoMemory>
 }
 
 /// The tree of an operation on two numbers.
-fn tree_of_two(alloc: Global, word: Word2) -> Result<Term, NoMemory>
+pub fn tree_of_two(alloc: Global, word: Word2) -> Result<Term, NoMemory>
     ensures { IfOk result (λ t. t ≡ of_two word) }
 {
     let mut both = Vec::new(alloc);
