@@ -34,23 +34,30 @@ value_kept p q k f o =
 pub owned_kept : (p q : Package) → Keeps p q → (f : Func) → OwnsFunction p f → OwnsFunction q f
 owned_kept p q k f o = (k.functions f o).owned
 
+-- Where each function of a package is one of another too, a job in order in the first is in order in the second.
+level_where : (p q : Package) → ((f : Func) → OwnsFunction p f → OwnsFunction q f) → (f g : Func) → AreLevel p f g → AreLevel q f g
+level_where p q own f g a = record { first = own f a.first; second = own g a.second; level = a.level }
+
+in_order_where : (p q : Package) → ((f : Func) → OwnsFunction p f → OwnsFunction q f) → (t : Task) → IsTaskInOrder p t → IsTaskInOrder q t
+in_order_where p q own (task.Const level v) o = o
+in_order_where p q own (task.Var level i) o = o
+in_order_where p q own (task.Map tree f) o = own f o
+in_order_where p q own (task.Apply tree f g) o = level_where p q own f g o
+in_order_where p q own (task.Ternary tree f g h) o = (level_where p q own f g o.0, level_where p q own f h o.1)
+in_order_where p q own (task.Restrict f i b) o = (own f o.0, o.1)
+in_order_where p q own (task.Kron f g) o = (level_where p q own f g o.0, o.1)
+in_order_where p q own (task.Matmul f g) o = (level_where p q own f g o.0, o.1)
+in_order_where p q own (task.Transpose f) o = (own f o.0, o.1)
+in_order_where p q own (task.Id level) o = o
+in_order_where p q own (task.Walsh level) o = o
+in_order_where p q own (task.UnitAt level r c) o = o
+
 pub level_kept : (p q : Package) → Keeps p q → (f g : Func) → AreLevel p f g → AreLevel q f g
-level_kept p q k f g a = record { first = owned_kept p q k f a.first; second = owned_kept p q k g a.second; level = a.level }
+level_kept p q k = level_where p q (owned_kept p q k)
 
 -- a job in order stays in order
 pub in_order_kept : (p q : Package) → Keeps p q → (t : Task) → IsTaskInOrder p t → IsTaskInOrder q t
-in_order_kept p q k (task.Const level v) o = o
-in_order_kept p q k (task.Var level i) o = o
-in_order_kept p q k (task.Map tree f) o = owned_kept p q k f o
-in_order_kept p q k (task.Apply tree f g) o = level_kept p q k f g o
-in_order_kept p q k (task.Ternary tree f g h) o = (level_kept p q k f g o.0, level_kept p q k f h o.1)
-in_order_kept p q k (task.Restrict f i b) o = (owned_kept p q k f o.0, o.1)
-in_order_kept p q k (task.Kron f g) o = (level_kept p q k f g o.0, o.1)
-in_order_kept p q k (task.Matmul f g) o = (level_kept p q k f g o.0, o.1)
-in_order_kept p q k (task.Transpose f) o = (owned_kept p q k f o.0, o.1)
-in_order_kept p q k (task.Id level) o = o
-in_order_kept p q k (task.Walsh level) o = o
-in_order_kept p q k (task.UnitAt level r c) o = o
+in_order_kept p q k = in_order_where p q (owned_kept p q k)
 
 -- what is made of two functions' values stays
 both_kept : (p q : Package) → Keeps p q → (make : (List Bool → ℤ) → (List Bool → ℤ) → List Bool → Option ℤ) → (f g : Func) → AreLevel p f g → make (value_in q f) (value_in q g) ≡ make (value_in p f) (value_in p g)
@@ -169,19 +176,5 @@ value_alone t lists m (task.UnitAt level r c) = refl
 owned_alone : (t : Groupings) (lists : List (List ℤ)) (m : Remembered) (f : Func) → OwnsFunction (package_of t lists m) f → OwnsFunction (package_of t lists no_job) f
 owned_alone t lists m f o = record { head = o.head; list = o.list; valued = o.valued }
 
-level_alone : (t : Groupings) (lists : List (List ℤ)) (m : Remembered) (f g : Func) → AreLevel (package_of t lists m) f g → AreLevel (package_of t lists no_job) f g
-level_alone t lists m f g a = record { first = owned_alone t lists m f a.first; second = owned_alone t lists m g a.second; level = a.level }
-
 pub order_alone : (t : Groupings) (lists : List (List ℤ)) (m : Remembered) (x : Task) → IsTaskInOrder (package_of t lists m) x → IsTaskInOrder (package_of t lists no_job) x
-order_alone t lists m (task.Const level v) o = o
-order_alone t lists m (task.Var level i) o = o
-order_alone t lists m (task.Map tree f) o = owned_alone t lists m f o
-order_alone t lists m (task.Apply tree f g) o = level_alone t lists m f g o
-order_alone t lists m (task.Ternary tree f g h) o = (level_alone t lists m f g o.0, level_alone t lists m f h o.1)
-order_alone t lists m (task.Restrict f i b) o = (owned_alone t lists m f o.0, o.1)
-order_alone t lists m (task.Kron f g) o = (level_alone t lists m f g o.0, o.1)
-order_alone t lists m (task.Matmul f g) o = (level_alone t lists m f g o.0, o.1)
-order_alone t lists m (task.Transpose f) o = (owned_alone t lists m f o.0, o.1)
-order_alone t lists m (task.Id level) o = o
-order_alone t lists m (task.Walsh level) o = o
-order_alone t lists m (task.UnitAt level r c) o = o
+order_alone t lists m = in_order_where (package_of t lists m) (package_of t lists no_job) (owned_alone t lists m)

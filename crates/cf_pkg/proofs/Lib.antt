@@ -7,6 +7,7 @@ pub mod Keeping
 pub mod Firsts
 pub mod ExitWork
 pub mod Valued
+pub mod BasicParts
 pub mod Members
 pub mod Reaching
 pub mod Sizing

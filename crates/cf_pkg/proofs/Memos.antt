@@ -19,6 +19,8 @@ use Rattle.cf_pkg.specs.declared.memo.JobKey.TheVariants as key
 use Rattle.cf_pkg.specs.Tasks.{Task}
 use Rattle.cf_pkg.specs.Tasks as task
 use Rattle.cf_pkg.specs.Memos.{Remembered, tree_at, task_at, entry_of, finished, IsFinished, IsUndone, IsAnswer, IsWordless, IsPlaced, IsOperation, IsTold, HasKey, HasTree, IsMemo, EntersTree, with_entry}
+use Rattle.cf_pkg.specs.declared.jobs.Job.{Job}
+use Rattle.cf_pkg.specs.Jobs.{task_of}
 use Rattle.cf_pkg.proofs.Keys.{same, same_key, same_again}
 use Rattle.cf_model.proofs.CanonLaws.{AllDiffer-push}
 use Rattle.cf_pkg.proofs.Members.{none, here, later, first_or_later, mapped, from_mapped}
@@ -274,12 +276,29 @@ has_key m is t f h =
 from_job : (trees : List Term) (t : Task) → (h : HasKey trees t) → IsFrom trees t h.0
 from_job trees t h = subst (λ (u : Task). IsFrom trees u h.0) h.1.is_it (from_its_job trees h.0 h.1.told)
 
--- and an operation has the tree of a finished job
-pub map_tree : (m : Remembered) → IsMemo m → (tree : Term) (f r : Func) → IsFinished m (task.Map tree f) r → HasTree m.trees tree
-map_tree m is tree f r h = let from = from_job m.trees (task.Map tree f) (has_key m is (task.Map tree f) r h) in (from.0, from.1)
+-- An operation has the task's tree, if it has one.
+abbrev HasItsTree : List Term → Task → Type 0
+HasItsTree trees (task.Map tree f) = HasTree trees tree
+HasItsTree trees (task.Apply tree f g) = HasTree trees tree
+HasItsTree trees (task.Ternary tree f g h) = HasTree trees tree
+HasItsTree trees other = Unit {0}
 
-pub apply_tree : (m : Remembered) → IsMemo m → (tree : Term) (f g r : Func) → IsFinished m (task.Apply tree f g) r → HasTree m.trees tree
-apply_tree m is tree f g r h = let from = from_job m.trees (task.Apply tree f g) (has_key m is (task.Apply tree f g) r h) in (from.0, from.1)
+has_its_tree : (trees : List Term) (t : Task) (k : JobKey) → IsFrom trees t k → HasItsTree trees t
+has_its_tree trees (task.Const level v) k h = tt
+has_its_tree trees (task.Var level i) k h = tt
+has_its_tree trees (task.Map tree f) k h = (h.0, h.1)
+has_its_tree trees (task.Apply tree f g) k h = (h.0, h.1)
+has_its_tree trees (task.Ternary tree f g i) k h = (h.0, h.1)
+has_its_tree trees (task.Restrict f i b) k h = tt
+has_its_tree trees (task.Kron f g) k h = tt
+has_its_tree trees (task.Matmul f g) k h = tt
+has_its_tree trees (task.Transpose f) k h = tt
+has_its_tree trees (task.Id level) k h = tt
+has_its_tree trees (task.Walsh level) k h = tt
+has_its_tree trees (task.UnitAt level r c) k h = tt
 
-pub ternary_tree : (m : Remembered) → IsMemo m → (tree : Term) (f g i r : Func) → IsFinished m (task.Ternary tree f g i) r → HasTree m.trees tree
-ternary_tree m is tree f g i r h = let from = from_job m.trees (task.Ternary tree f g i) (has_key m is (task.Ternary tree f g i) r h) in (from.0, from.1)
+-- An operation has the tree of a finished job, which is told by one of its arms.
+pub job_tree : (inside m : Remembered) → IsMemo inside → inside ≡ m → (job arm : Job) → job ≡ arm → (r : Func) → IsFinished m (task_of job) r → HasItsTree m.trees (task_of arm)
+job_tree inside m is shown job arm e r h =
+    let key = has_key m (subst IsMemo shown is) (task_of arm) r (subst (λ (j : Job). IsFinished m (task_of j) r) e h) in
+    has_its_tree m.trees (task_of arm) key.0 (from_job m.trees (task_of arm) key)

@@ -4,19 +4,22 @@ use Rattle.cf_build.specs.Assembling.{Stands}
 use Rattle.cf_model.specs.Values.{Fits}
 use Rattle.std.specs.Prelude.{Contains, if◌then◌else◌}
 use Rattle.cf_model.specs.Assignments.{bit_at}
-use Rattle.cf_model.specs.Diagrams.{IsGood, Extends}
+use Rattle.cf_model.specs.Diagrams.{count, IsGood, Extends}
+use Rattle.cf_model.proofs.Callees.{sub_in}
 use Rattle.cf_model.proofs.Growing.{Extends-refl}
 use Rattle.cf_tuple.specs.Books.{Lengthens as KeepsTuples}
 use Rattle.cf_values.specs.Books.{Lengthens}
 use Rattle.cf_values.proofs.BookLaws.{Lengthens-same}
 use Rattle.cf_table.specs.Groupings.{Groupings}
+use Rattle.cf_pair.specs.Products.{AddsPartsOf}
+use Rattle.cf_table.specs.declared.Gid.{Gid}
 use Rattle.cf_pkg.specs.declared.Func.{Func}
 use Rattle.cf_pkg.specs.declared.memo.JobKey.{JobKey}
 use Rattle.cf_pkg.specs.Basics.{constant_pattern, variable_pattern}
 use Rattle.cf_pkg.specs.Tasks.{Task}
 use Rattle.cf_pkg.specs.Tasks as task
 use Rattle.cf_pkg.specs.Memos.{Remembered, task_at, finished, IsFinished, IsUndone, IsAnswer, with_entry}
-use Rattle.cf_pkg.specs.Packages.{Package, package_of, Keeps}
+use Rattle.cf_pkg.specs.Packages.{Package, package_of, OwnsFunction, Keeps, HasParts, AddsParts}
 use Rattle.cf_pkg.specs.Jobs.{task_level, Finishes}
 use Rattle.cf_pkg.specs.Remembering.{IsSound, IsDone, FinishesBelow}
 use Rattle.cf_pkg.proofs.Keeping.{keeps, constant_means, variable_means}
@@ -86,10 +89,16 @@ remember_keeps p key f = record {
   jobs = λ t g h. entered_before p.memo key f t g h;
 }
 
+-- all parts of an owned function are in the table
+pub parts_there : (p : Package) → IsGood p.groupings.levels → (f : Func) → OwnsFunction p f → HasParts p f
+parts_there p good f o = sub_in p.groupings.levels good f.head.level f.head.at o.head
+
 -- what the memo answers is the job's function
-pub done : (p : Package) → IsSound p → (t : Task) (o : Option Func) → MatchOption o (IsUndone p.memo t) (IsAnswer p.memo t) → MatchOption o (IsUndone p.memo t) (IsDone p t)
-done p s t None h = h
-done p s t (Some f) h = record { there = h.there; alone = h.alone; is_it = s.finished t f h.there }
+pub done : (p : Package) → IsGood p.groupings.levels → IsSound p → (t : Task) (o : Option Func) → MatchOption o (IsUndone p.memo t) (IsAnswer p.memo t) → MatchOption o (IsUndone p.memo t) (IsDone p t)
+done p good s t None h = h
+done p good s t (Some f) h =
+    let is_it = s.finished t f h.there in
+    record { there = h.there; alone = h.alone; is_it = is_it; parts = parts_there p good f is_it.values.owned }
 
 pub sound_with : (p : Package) → IsSound p → (key : JobKey) (f : Func) → Finishes p (task_at p.memo.trees key) f → IsSound (with_job p key f)
 sound_with p s key f is = record {
@@ -135,3 +144,26 @@ below_both p q r limit a b t f h = elim (b t f h) [
   | inl x ↦ a t f x
   | inr lt ↦ inr lt
 ]
+
+-- A function's grouping stands as it was made.
+pub stands_known : (q r : Package) (h : Gid) (f : Func) (l : ℕ) (ranks : List ℕ) → r.groupings ≡ q.groupings → f.head ≡ h → Stands q.groupings.levels h l ranks → Stands r.groupings.levels f.head l ranks
+stands_known q r h f l ranks same head s =
+    subst (λ (g : Groupings). Stands g.levels f.head l ranks) (sym same) (subst (λ (g : Gid). Stands q.groupings.levels g l ranks) (sym head) s)
+
+-- What a basic job's function is known by once it was remembered in the package `s`, and made in `r` by a grouping of `q`.
+pub known_is_it : (r s : Package) (key : JobKey) (t : Task) (f : Func) → s ≡ with_job r key f → Finishes r t f → Finishes s t f
+known_is_it r s key t f e is = subst (λ (x : Package). Finishes x t f) (sym e) (finishes_kept r (with_job r key f) (remember_keeps r key f) t f is)
+
+pub known_below : (p q r s : Package) (key : JobKey) (f : Func) (low limit : ℕ) → s ≡ with_job r key f → r.memo ≡ q.memo → low ≤ limit → task_level (task_at r.memo.trees key) < limit → FinishesBelow p q low → FinishesBelow p s limit
+known_below p q r s key f low limit e same le lt below =
+    subst (λ (x : Package). FinishesBelow p x limit) (sym e) (below_with p r key f limit (below_memo p q r low limit same le below) lt)
+
+-- What was added for a grouping was added for a function of it that was remembered.
+pub added_known : (p q r s : Package) (key : JobKey) (h : Gid) (f : Func) → r.groupings ≡ q.groupings → f.head ≡ h → s ≡ with_job r key f → AddsPartsOf p.groupings q.groupings h → AddsParts p s f
+added_known p q r s key h f same head e a =
+    subst (λ (x : Package). AddsParts p x f) (sym e)
+    (subst (λ (g : Groupings). AddsPartsOf p.groupings g f.head) (sym same) (subst (λ (g : Gid). AddsPartsOf p.groupings q.groupings g) (sym head) a))
+
+-- and such a function's parts are in the table
+pub parts_known : (r s : Package) (key : JobKey) (f : Func) → IsGood r.groupings.levels → f.head.at < count r.groupings.levels f.head.level → s ≡ with_job r key f → HasParts s f
+parts_known r s key f good there e = subst (λ (x : Package). HasParts x f) (sym e) (sub_in r.groupings.levels good f.head.level f.head.at there)

@@ -71,7 +71,7 @@ abbrev zeros : ℕ → List ℕ
 zeros n = map (λ bits. 0) (all_bits n)
 
 -- a row of one label has it everywhere
-one_label : (q : ℕ → List ℕ) (n c z : ℕ) → q c ≡ zeros n → row_labels q (c, z ∷ []) ≡ map (λ bits. z) (all_bits n)
+pub one_label : (q : ℕ → List ℕ) (n c z : ℕ) → q c ≡ zeros n → row_labels q (c, z ∷ []) ≡ map (λ bits. z) (all_bits n)
 one_label q n c z e = ap (flat_map (label_at (z ∷ []))) e ∙ words_map (label_at (z ∷ [])) (λ bits. 0) (all_bits n) ∙ flat_map_single (λ bits. z) (all_bits n)
 
 -- over a grouping of one exit, whose one row has one label: that label everywhere
@@ -105,16 +105,20 @@ bit_label : (b : Bool) → label_at (0 ∷ 1 ∷ []) (digit b) ≡ digit b ∷ [
 bit_label true = refl
 bit_label false = refl
 
+-- a row of the bit's two labels over a variable's grouping has the variable
+pub bit_labels : (q : ℕ → List ℕ) (n i v : ℕ) → q v ≡ map (bit_exit i) (all_bits n) → row_labels q (v, 0 ∷ 1 ∷ []) ≡ map (bit_exit i) (all_bits n)
+bit_labels q n i v e =
+    ap (flat_map (label_at (0 ∷ 1 ∷ []))) e ∙ words_map (label_at (0 ∷ 1 ∷ [])) (bit_exit i) (all_bits n)
+    ∙ flat_same (λ ys. label_at (0 ∷ 1 ∷ []) (bit_exit i ys)) (λ ys. bit_exit i ys ∷ []) (all_bits n) (λ ys. bit_label (bit_at ys i))
+    ∙ flat_map_single (bit_exit i) (all_bits n)
+
 -- over a grouping of one exit, whose one row is a variable's grouping: the variable of the second half
 pub second_over : (q : ℕ → List ℕ) (n i a v : ℕ) → n ≤ i → q a ≡ zeros n → q v ≡ map (bit_exit (i - n)) (all_bits n)
     → labels_over q a ((v, 0 ∷ 1 ∷ []) ∷ []) ≡ map (bit_exit i) (all_bits (n + n))
 second_over q n i a v h ea ev =
     let rows : List (ℕ × List ℕ) = (v, 0 ∷ 1 ∷ []) ∷ [] in
     let word : ℕ → List ℕ = λ j. row_labels q (get_or rows j (0, [])) in
-    let row : word 0 ≡ map (bit_exit (i - n)) (all_bits n)
-    = ap (flat_map (label_at (0 ∷ 1 ∷ []))) ev ∙ words_map (label_at (0 ∷ 1 ∷ [])) (bit_exit (i - n)) (all_bits n)
-    ∙ flat_same (λ ys. label_at (0 ∷ 1 ∷ []) (bit_exit (i - n) ys)) (λ ys. bit_exit (i - n) ys ∷ []) (all_bits n) (λ ys. bit_label (bit_at ys (i - n)))
-    ∙ flat_map_single (bit_exit (i - n)) (all_bits n) in
+    let row : word 0 ≡ map (bit_exit (i - n)) (all_bits n) = bit_labels q n (i - n) v ev in
     ap (flat_map word) ea ∙ words_map word (λ bits. 0) (all_bits n)
     ∙ flat_on_bits n (λ xs. word 0) (λ xs. map (λ ys. bit_exit i (xs ++ ys)) (all_bits n))
     (λ xs len. row ∙ map_same (bit_exit (i - n)) (λ ys. bit_exit i (xs ++ ys)) (all_bits n) (λ ys. ap digit (sym (get_or-append_right xs ys n i false len h))))

@@ -9,3 +9,4 @@ pub mod Exits
 pub mod Jobs
 pub mod Sizes
 pub mod Remembering
+pub mod Outcomes

@@ -1,9 +1,10 @@
 use Rattle.std.specs.Prelude.{◌≡◌, ◌<◌, ℤ, List, [], length, slice_index_or as get_or}
 use Rattle.cf_model.specs.FlatFunctions.{FlatFunction}
 use Rattle.cf_model.specs.Patterns.{Pattern, sub}
-use Rattle.cf_model.specs.Diagrams.{Extends}
+use Rattle.cf_model.specs.Diagrams.{Extends, HasPatterns}
 use Rattle.cf_model.specs.Functions.{function_of}
 use Rattle.cf_table.specs.Groupings.{Groupings, only_base, Owns, exits_of, pattern_of}
+use Rattle.cf_build.specs.Assembling.{AddsOnly}
 use Rattle.cf_tuple.specs.Books.{Lengthens as KeepsTuples}
 use Rattle.cf_values.specs.Books.{Lengthens}
 use Rattle.cf_pkg.specs.declared.Func.{Func}
@@ -59,3 +60,15 @@ pub record Keeps (before now : Package) : Type 0 where
 -- all that the pattern of a function's grouping is made of
 abbrev pub function_parts : Package → Func → List Pattern
 function_parts p f = sub f.head.level (pattern_of p.groupings f.head)
+
+-- All parts of the function's pattern are in the table.
+abbrev pub HasParts : Package → Func → Type 0
+HasParts p f = HasPatterns p.groupings.levels (function_parts p f)
+
+-- The table has gained only groupings of these patterns.
+abbrev pub Adds : (before now : Package) → List Pattern → Type 0
+Adds before now parts = AddsOnly before.groupings.levels now.groupings.levels parts
+
+-- The table has gained only parts of the function's pattern.
+abbrev pub AddsParts : (before now : Package) → Func → Type 0
+AddsParts before now f = Adds before now (function_parts now f)

@@ -1,14 +1,15 @@
 //! Operations on functions as they are done, point by point, where no function is remembered.
 
-ghost use Rattle.std.specs.Prelude.{◌≡◌, ◌≤◌, ◌+◌, ◌++◌, length, IfOk};
+ghost use Rattle.std.specs.Prelude.{◌≡◌, ◌≤◌, ◌+◌, length, IfOk};
 ghost use Rattle.cf_model.specs.Functions.{function_of};
 ghost use Rattle.cf_table.specs.Groupings.{Owns, exits_of};
-ghost use Rattle.cf_build.specs.Assembling.{AddsOnly};
 ghost use Rattle.cf_ops.specs.Operations.{Answers1, Answers2, Answers3};
-ghost use Rattle.cf_pkg.specs.Packages.{OwnsFunction, Means, Keeps, function_parts};
-ghost use Rattle.cf_pkg.specs.Jobs.{AreLevel, map_value, apply_value, ternary_value, HasValues, IsLeastWithout};
-ghost use Rattle.cf_pkg.specs.Faults.{IfOverflow, IsFaultOf, IsExitFault};
-ghost use Rattle.cf_pkg.specs.Products.{pair_parts, triple_parts, pair_steps};
+ghost use Rattle.cf_pkg.specs.Tasks as task;
+ghost use Rattle.cf_pkg.specs.Packages.{OwnsFunction, Means, Keeps, HasParts, AddsParts};
+ghost use Rattle.cf_pkg.specs.Jobs.{AreLevel};
+ghost use Rattle.cf_pkg.specs.Faults.{IsFaultOf, IsExitFault};
+ghost use Rattle.cf_pkg.specs.Products.{pair_steps};
+ghost use Rattle.cf_pkg.specs.Outcomes.{IsOutcome};
 
 use crate::exits::{ExitFault, apply_exits, map_exits, ternary_exits};
 use crate::jobs::OpFault;
@@ -32,8 +33,10 @@ impl Pkg {
     pub(crate) fn valued(&mut self, g: Gid, values: &[i128]) -> Result<Func, NoMemory>
         requires owned { Owns self.old.groupings g }
         requires valued { length values.now ≡ exits_of self.old.groupings g }
-        ensures means { IfOk result (λ f. Means self.new f (function_of self.old.groupings.levels g.level g.at values.now)) }
-        ensures added { IfOk result (λ f. AddsOnly self.old.groupings.levels self.new.groupings.levels (function_parts self.new f)) }
+        ensures means { IfOk result (λ f.
+            Means self.new f (function_of self.old.groupings.levels g.level g.at values.now)) }
+        ensures added { IfOk result (AddsParts self.old self.new) }
+        ensures parts { IfOk result (HasParts self.new) }
         ensures memo { self.new.memo ≡ self.old.memo }
         ensures kept { Keeps self.old self.new }
     {
@@ -69,9 +72,7 @@ impl Pkg {
     ) -> Result<Func, OpFault>
         requires answers { Answers1 (F.pre op.now.call) (F.post op.now.call) op.now.tree }
         requires owned { OwnsFunction self.old f }
-        ensures values { IfOk result (λ r. HasValues self.new r f.head.level (map_value self.old op.now.tree f)) }
-        ensures overflow { IfOverflow result (IsLeastWithout f.head.level (map_value self.old op.now.tree f)) }
-        ensures added { IfOk result (λ r. AddsOnly self.old.groupings.levels self.new.groupings.levels (function_parts self.new r)) }
+        ensures outcome { IsOutcome self.old self.new (task.Map op.now.tree f) result }
         ensures memo { self.new.memo ≡ self.old.memo }
         ensures kept { Keeps self.old self.new }
     {
@@ -94,9 +95,7 @@ impl Pkg {
     ) -> Result<Func, OpFault>
         requires answers { Answers2 (F.pre op.now.call) (F.post op.now.call) op.now.tree }
         requires level { AreLevel self.old f g }
-        ensures values { IfOk result (λ r. HasValues self.new r f.head.level (apply_value self.old op.now.tree f g)) }
-        ensures overflow { IfOverflow result (IsLeastWithout f.head.level (apply_value self.old op.now.tree f g)) }
-        ensures added { IfOk result (λ r. AddsOnly self.old.groupings.levels self.new.groupings.levels (pair_parts self.old f g ++ function_parts self.new r)) }
+        ensures outcome { IsOutcome self.old self.new (task.Apply op.now.tree f g) result }
         ensures memo { self.new.memo ≡ self.old.memo }
         ensures kept { Keeps self.old self.new }
         ensures steps { steps.new ≤ steps.old + pair_steps self.old f g }
@@ -124,9 +123,7 @@ impl Pkg {
         requires answers { Answers3 (F.pre op.now.call) (F.post op.now.call) op.now.tree }
         requires level { AreLevel self.old f g }
         requires third_level { AreLevel self.old f h }
-        ensures values { IfOk result (λ r. HasValues self.new r f.head.level (ternary_value self.old op.now.tree f g h)) }
-        ensures overflow { IfOverflow result (IsLeastWithout f.head.level (ternary_value self.old op.now.tree f g h)) }
-        ensures added { IfOk result (λ r. AddsOnly self.old.groupings.levels self.new.groupings.levels (triple_parts self.old f g h ++ function_parts self.new r)) }
+        ensures outcome { IsOutcome self.old self.new (task.Ternary op.now.tree f g h) result }
         ensures memo { self.new.memo ≡ self.old.memo }
         ensures kept { Keeps self.old self.new }
     {

@@ -6,9 +6,10 @@ ghost use Rattle.cf_model.specs.Renumbering.{AllDiffer};
 ghost use Rattle.cf_model.specs.Diagrams.{IsGood, Extends};
 ghost use Rattle.cf_tuple.specs.Books.{Lengthens};
 ghost use Rattle.cf_build.specs.Assembling.{Stands};
+ghost use Rattle.cf_pair.specs.Products.{AddsPartsOf};
 ghost use Rattle.cf_pkg.specs.Basics.{constant_pattern, variable_pattern, AreBasics};
 ghost use Rattle.cf_pkg.specs.Tasks as task;
-ghost use Rattle.cf_pkg.specs.Packages.{IsRemembered, Keeps};
+ghost use Rattle.cf_pkg.specs.Packages.{IsRemembered, Keeps, HasParts, AddsParts};
 ghost use Rattle.cf_pkg.specs.Jobs.{Finishes, AnswersFinished};
 ghost use Rattle.cf_pkg.specs.Remembering.{FinishesBelow};
 
@@ -42,6 +43,7 @@ fn constant_above(alloc: Global, table: &mut Table, level: u8, below: Gid) -> Re
     requires below { Stands table.old.levels below (level - 1) (constant_pattern (level - 1)) }
     requires good { IsGood table.old.levels }
     ensures stands { IfOk result (λ g. Stands table.new.levels g level (constant_pattern level)) }
+    ensures added { IfOk result (AddsPartsOf table.old table.new) }
     ensures good { IsGood table.new.levels }
     ensures extends { Extends table.old.levels table.new.levels }
     ensures longer { Lengthens table.old.tuples table.new.tuples }
@@ -65,6 +67,7 @@ fn first_above(
     requires below { AreBasics table.old.levels below (level - 1) i }
     requires good { IsGood table.old.levels }
     ensures stands { IfOk result (λ g. Stands table.new.levels g level (variable_pattern level i)) }
+    ensures added { IfOk result (AddsPartsOf table.old table.new) }
     ensures good { IsGood table.new.levels }
     ensures extends { Extends table.old.levels table.new.levels }
     ensures longer { Lengthens table.old.tuples table.new.tuples }
@@ -91,6 +94,7 @@ fn second_above(
     requires below { AreBasics table.old.levels below (level - 1) (i - 2 ^ (level - 1)) }
     requires good { IsGood table.old.levels }
     ensures stands { IfOk result (λ g. Stands table.new.levels g level (variable_pattern level i)) }
+    ensures added { IfOk result (AddsPartsOf table.old table.new) }
     ensures good { IsGood table.new.levels }
     ensures extends { Extends table.old.levels table.new.levels }
     ensures longer { Lengthens table.old.tuples table.new.tuples }
@@ -115,6 +119,7 @@ fn variable_above(
     requires below { AreBasics table.old.levels below (level - 1) (i % 2 ^ (level - 1)) }
     requires good { IsGood table.old.levels }
     ensures stands { IfOk result (λ g. Stands table.new.levels g level (variable_pattern level i)) }
+    ensures added { IfOk result (AddsPartsOf table.old table.new) }
     ensures good { IsGood table.new.levels }
     ensures extends { Extends table.old.levels table.new.levels }
     ensures longer { Lengthens table.old.tuples table.new.tuples }
@@ -146,8 +151,12 @@ impl Pkg {
     fn constant_over(&mut self, level: u8, below: Gid) -> Result<Gid, NoMemory>
         requires above { 1 ≤ level }
         requires level { level ≤ 7 }
-        requires below { Stands self.old.groupings.levels below (level - 1) (constant_pattern (level - 1)) }
-        ensures stands { IfOk result (λ g. Stands self.new.groupings.levels g level (constant_pattern level)) }
+        requires below {
+            Stands self.old.groupings.levels below (level - 1) (constant_pattern (level - 1)) }
+        ensures stands { IfOk result (λ g.
+            Stands self.new.groupings.levels g level (constant_pattern level)) }
+        ensures added { IfOk result (AddsPartsOf self.old.groupings self.new.groupings) }
+        ensures good { IsGood self.new.groupings.levels }
         ensures memo { self.new.memo ≡ self.old.memo }
         ensures kept { Keeps self.old self.new }
     {
@@ -160,8 +169,12 @@ impl Pkg {
         requires above { 1 ≤ level }
         requires level { level ≤ 7 }
         requires variable { i < 2 ^ level }
-        requires below { AreBasics self.old.groupings.levels below (level - 1) (i % 2 ^ (level - 1)) }
-        ensures stands { IfOk result (λ g. Stands self.new.groupings.levels g level (variable_pattern level i)) }
+        requires below {
+            AreBasics self.old.groupings.levels below (level - 1) (i % 2 ^ (level - 1)) }
+        ensures stands { IfOk result (λ g.
+            Stands self.new.groupings.levels g level (variable_pattern level i)) }
+        ensures added { IfOk result (AddsPartsOf self.old.groupings self.new.groupings) }
+        ensures good { IsGood self.new.groupings.levels }
         ensures memo { self.new.memo ≡ self.old.memo }
         ensures kept { Keeps self.old self.new }
     {
@@ -174,6 +187,8 @@ impl Pkg {
     pub(crate) fn known_constant(&mut self, level: u8, v: i128) -> Result<Func, NoMemory>
         requires level { level ≤ 7 }
         ensures is_it { IfOk result (Finishes self.new (task.Const level v)) }
+        ensures added { IfOk result (AddsParts self.old self.new) }
+        ensures parts { IfOk result (HasParts self.new) }
         ensures remembered { IfOk result (IsRemembered self.new (task.Const level v)) }
         ensures finished { AnswersFinished self.old self.new (task.Const level v) result }
         ensures below { FinishesBelow self.old self.new (level + 1) }
@@ -194,7 +209,9 @@ impl Pkg {
     #[cycle(constant)]
     fn constant_grouping(&mut self, level: u8) -> Result<Gid, NoMemory>
         requires level { level ≤ 7 }
-        ensures stands { IfOk result (λ g. Stands self.new.groupings.levels g level (constant_pattern level)) }
+        ensures stands { IfOk result (λ g.
+            Stands self.new.groupings.levels g level (constant_pattern level)) }
+        ensures added { IfOk result (AddsPartsOf self.old.groupings self.new.groupings) }
         ensures below { FinishesBelow self.old self.new level }
         ensures kept { Keeps self.old self.new }
     {
@@ -213,6 +230,8 @@ impl Pkg {
         requires level { level ≤ 7 }
         requires variable { i < 2 ^ level }
         ensures is_it { IfOk result (Finishes self.new (task.Var level i)) }
+        ensures added { IfOk result (AddsParts self.old self.new) }
+        ensures parts { IfOk result (HasParts self.new) }
         ensures remembered { IfOk result (IsRemembered self.new (task.Var level i)) }
         ensures finished { AnswersFinished self.old self.new (task.Var level i) result }
         ensures below { FinishesBelow self.old self.new (level + 1) }
@@ -234,7 +253,9 @@ impl Pkg {
     fn variable_grouping(&mut self, level: u8, i: u8) -> Result<Gid, NoMemory>
         requires level { level ≤ 7 }
         requires variable { i < 2 ^ level }
-        ensures stands { IfOk result (λ g. Stands self.new.groupings.levels g level (variable_pattern level i)) }
+        ensures stands { IfOk result (λ g.
+            Stands self.new.groupings.levels g level (variable_pattern level i)) }
+        ensures added { IfOk result (AddsPartsOf self.old.groupings self.new.groupings) }
         ensures below { FinishesBelow self.old self.new level }
         ensures kept { Keeps self.old self.new }
     {

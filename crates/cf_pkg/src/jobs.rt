@@ -8,7 +8,8 @@ ghost use Rattle.cf_pkg.specs.declared.jobs.Job.{Job};
 ghost use Rattle.cf_pkg.specs.Memos.{no_job};
 ghost use Rattle.cf_pkg.specs.Packages.{Keeps, IsRemembered, package_of};
 ghost use Rattle.cf_pkg.specs.Faults.{IfOverflow};
-ghost use Rattle.cf_pkg.specs.Jobs.{task_of, AnswersFinished, IsInOrder, IsRestriction, job_level, job_value, job_parts, Gives, HasValues, IsLeastWithout};
+ghost use Rattle.cf_pkg.specs.Jobs.{task_of, AnswersFinished, IsInOrder, IsRestriction, job_level, job_value, job_parts, Gives, IsLeastWithout};
+ghost use Rattle.cf_pkg.specs.Outcomes.{IsJobOutcome};
 
 use crate::{Func, Pkg};
 use cf_bits::Bits;
@@ -127,9 +128,13 @@ pub trait Recipe {
     ) -> Result<(Gid, Vec<i128>), OpFault>
         requires does { does self.now job.now }
         requires in_order { IsInOrder (package_of table.old values.now no_job) job.now }
-        ensures value { IfOk result (λ r. Gives table.new.levels r.0 r.1.items (job_level job.now) (job_value (package_of table.old values.now no_job) job.now)) }
-        ensures overflow { IfOverflow result (IsLeastWithout (job_level job.now) (job_value (package_of table.old values.now no_job) job.now)) }
-        ensures restricted { IsRestriction job.now → IfOk result (λ r. AddsOnly table.old.levels table.new.levels (job_parts (package_of table.old values.now no_job) job.now)) }
+        ensures value { IfOk result (λ r. Gives table.new.levels r.0 r.1.items
+            (job_level job.now) (job_value (package_of table.old values.now no_job) job.now)) }
+        ensures overflow { IfOverflow result (IsLeastWithout
+            (job_level job.now) (job_value (package_of table.old values.now no_job) job.now)) }
+        ensures restricted { IsRestriction job.now → IfOk result (λ r.
+            AddsOnly table.old.levels table.new.levels
+                (job_parts (package_of table.old values.now no_job) job.now)) }
         ensures good { IsGood table.new.levels }
         ensures kept { Extends table.old.levels table.new.levels }
         ensures tuples { Lengthens table.old.tuples table.new.tuples };
@@ -141,9 +146,7 @@ impl Pkg {
     fn make_anew<R: Recipe>(&mut self, recipe: &R, job: Job) -> Result<Func, OpFault>
         requires does { R.does recipe.now job }
         requires in_order { IsInOrder self.old job }
-        ensures values { IfOk result (λ f. HasValues self.new f (job_level job.entry) (job_value self.old job.entry)) }
-        ensures overflow { IfOverflow result (IsLeastWithout (job_level job.entry) (job_value self.old job.entry)) }
-        ensures restricted { IsRestriction job.entry → IfOk result (λ f. AddsOnly self.old.groupings.levels self.new.groupings.levels (job_parts self.old job.entry)) }
+        ensures outcome { IsJobOutcome self.old self.new job.entry result }
         ensures memo { self.new.memo ≡ self.old.memo }
         ensures kept { Keeps self.old self.new }
     {
@@ -158,9 +161,7 @@ impl Pkg {
     pub fn make<R: Recipe>(&mut self, recipe: &R, job: Job) -> Result<Func, OpFault>
         requires does { R.does recipe.now job }
         requires in_order { IsInOrder self.old job }
-        ensures values { IfOk result (λ f. HasValues self.new f (job_level job.entry) (job_value self.old job.entry)) }
-        ensures overflow { IfOverflow result (IsLeastWithout (job_level job.entry) (job_value self.old job.entry)) }
-        ensures restricted { IsRestriction job.entry → IfOk result (λ f. AddsOnly self.old.groupings.levels self.new.groupings.levels (job_parts self.old job.entry)) }
+        ensures outcome { IsJobOutcome self.old self.new job.entry result }
         ensures remembered { IfOk result (IsRemembered self.new (task_of job.entry)) }
         ensures finished { AnswersFinished self.old self.new (task_of job.entry) result }
         ensures kept { Keeps self.old self.new }

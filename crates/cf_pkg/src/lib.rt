@@ -20,7 +20,7 @@ ghost use Rattle.cf_model.specs.Functions.{IsFunction};
 ghost use Rattle.cf_model.specs.Renumbering.{AllDiffer};
 ghost use Rattle.cf_table.specs.Groupings.{Owns, exits_of};
 ghost use Rattle.cf_pkg.specs.Tasks as task;
-ghost use Rattle.cf_pkg.specs.Packages.{no_function, values_of, OwnsFunction, IsRemembered, meaning, Means, Keeps};
+ghost use Rattle.cf_pkg.specs.Packages.{no_function, values_of, OwnsFunction, IsRemembered, meaning, Means, Keeps, HasParts, AddsParts};
 ghost use Rattle.cf_pkg.specs.Jobs.{AnswersFinished};
 
 use cf_bits::Bits;
@@ -35,6 +35,7 @@ pub use reached::Sizes;
 use std::alloc::Global;
 use std::marker::Model;
 use std::sync::ledger::Ledger;
+pub use words::tree_of_two;
 
 /// A function: a grouping, and the list of the values of its exits.
 #[derive(Clone, Copy, Debug, PartialEq, Eq, Hash)]
@@ -43,8 +44,8 @@ pub struct Func {
     pub vals: Vid,
 }
 
-/// Functions of levels 0 to 7 with values of 128 bits. Equal functions have one `Func`. Each finished
-/// job is remembered, so that doing it again takes no memory and adds nothing.
+/// Functions of levels 0 to 7 with values of 128 bits. Equal functions have one `Func`. Each
+/// finished job is remembered, so that doing it again takes no memory and adds nothing.
 #[derive(Drop)]
 pub struct Pkg {
     alloc: Global,
@@ -119,8 +120,10 @@ impl Pkg {
         ensures good { IsGood self.now.groupings.levels }
         ensures level { f.head.level ≤ 7 }
         ensures once { AllDiffer self.now.lists }
-        ensures function { IsFunction self.now.groupings.levels f.head.level f.head.at (values_of self.now f) }
-        ensures one { (g : Func) → OwnsFunction self.now g → meaning self.now g ≡ meaning self.now f → g ≡ f }
+        ensures function {
+            IsFunction self.now.groupings.levels f.head.level f.head.at (values_of self.now f) }
+        ensures one { (g : Func) → OwnsFunction self.now g →
+            meaning self.now g ≡ meaning self.now f → g ≡ f }
     {
         self.table.law();
         let _ = self.values.get(f.vals);
@@ -131,6 +134,8 @@ impl Pkg {
         requires level { level ≤ 7 }
         ensures level { IfOk result (λ f. f.head.level ≡ level) }
         ensures means { IfOk result (λ f. Means self.new f (tabulated level (λ bits. v))) }
+        ensures added { IfOk result (AddsParts self.old self.new) }
+        ensures parts { IfOk result (HasParts self.new) }
         ensures remembered { IfOk result (IsRemembered self.new (task.Const level v)) }
         ensures finished { AnswersFinished self.old self.new (task.Const level v) result }
         ensures kept { Keeps self.old self.new }
@@ -146,6 +151,8 @@ impl Pkg {
         requires variable { i < 2 ^ level }
         ensures level { IfOk result (λ f. f.head.level ≡ level) }
         ensures means { IfOk result (λ f. Means self.new f (variable level i)) }
+        ensures added { IfOk result (AddsParts self.old self.new) }
+        ensures parts { IfOk result (HasParts self.new) }
         ensures remembered { IfOk result (IsRemembered self.new (task.Var level i)) }
         ensures finished { AnswersFinished self.old self.new (task.Var level i) result }
         ensures kept { Keeps self.old self.new }
@@ -173,7 +180,8 @@ impl Pkg {
         requires first { OwnsFunction self.now f }
         requires second { OwnsFunction self.now g }
         requires level { f.head.level ≡ g.head.level }
-        ensures agree { IsTrue result ↔ ((bits : List Bool) → IsAssignment f.head.level bits → value_at (meaning self.now f) bits ≡ value_at (meaning self.now g) bits) }
+        ensures agree { IsTrue result ↔ ((bits : List Bool) → IsAssignment f.head.level bits →
+            value_at (meaning self.now f) bits ≡ value_at (meaning self.now g) bits) }
         ensures one { IsTrue result ↔ (f ≡ g) }
     {
         self.law(f);

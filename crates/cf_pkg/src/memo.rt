@@ -224,6 +224,7 @@ impl Pkg {
             (IsUndone self.now.memo (task_at self.now.memo.trees key))
             (IsDone self.now (task_at self.now.memo.trees key)) }
     {
+        self.table.law();
         self.memo.get(key)
     }
 

@@ -1,13 +1,12 @@
 //! Operations on functions, point by point. A job that was finished is looked up.
 
-ghost use Rattle.std.specs.Prelude.{◌≡◌, ◌≤◌, ◌+◌, ◌++◌, IfOk};
-ghost use Rattle.cf_build.specs.Assembling.{AddsOnly};
+ghost use Rattle.std.specs.Prelude.{◌≡◌, ◌≤◌, ◌+◌, IfOk};
 ghost use Rattle.cf_ops.specs.Operations.{Answers1, Answers2, Answers3};
 ghost use Rattle.cf_pkg.specs.Tasks as task;
-ghost use Rattle.cf_pkg.specs.Packages.{OwnsFunction, IsRemembered, Keeps, function_parts};
-ghost use Rattle.cf_pkg.specs.Jobs.{AreLevel, map_value, apply_value, ternary_value, HasValues, IsLeastWithout, AnswersFinished};
-ghost use Rattle.cf_pkg.specs.Faults.{IfOverflow};
-ghost use Rattle.cf_pkg.specs.Products.{pair_parts, triple_parts, pair_steps};
+ghost use Rattle.cf_pkg.specs.Packages.{OwnsFunction, IsRemembered, Keeps};
+ghost use Rattle.cf_pkg.specs.Jobs.{AreLevel, AnswersFinished};
+ghost use Rattle.cf_pkg.specs.Products.{pair_steps};
+ghost use Rattle.cf_pkg.specs.Outcomes.{IsOutcome};
 
 use crate::jobs::{Job, OpFault};
 use crate::{Func, Pkg};
@@ -25,9 +24,7 @@ impl Pkg {
     ) -> Result<Func, OpFault>
         requires answers { Answers1 (F.pre op.now.call) (F.post op.now.call) op.now.tree }
         requires owned { OwnsFunction self.old f }
-        ensures values { IfOk result (λ r. HasValues self.new r f.head.level (map_value self.old op.now.tree f)) }
-        ensures overflow { IfOverflow result (IsLeastWithout f.head.level (map_value self.old op.now.tree f)) }
-        ensures added { IfOk result (λ r. AddsOnly self.old.groupings.levels self.new.groupings.levels (function_parts self.new r)) }
+        ensures outcome { IsOutcome self.old self.new (task.Map op.now.tree f) result }
         ensures remembered { IfOk result (IsRemembered self.new (task.Map op.now.tree f)) }
         ensures finished { AnswersFinished self.old self.new (task.Map op.now.tree f) result }
         ensures kept { Keeps self.old self.new }
@@ -53,9 +50,7 @@ impl Pkg {
     ) -> Result<Func, OpFault>
         requires answers { Answers2 (F.pre op.now.call) (F.post op.now.call) op.now.tree }
         requires level { AreLevel self.old f g }
-        ensures values { IfOk result (λ r. HasValues self.new r f.head.level (apply_value self.old op.now.tree f g)) }
-        ensures overflow { IfOverflow result (IsLeastWithout f.head.level (apply_value self.old op.now.tree f g)) }
-        ensures added { IfOk result (λ r. AddsOnly self.old.groupings.levels self.new.groupings.levels (pair_parts self.old f g ++ function_parts self.new r)) }
+        ensures outcome { IsOutcome self.old self.new (task.Apply op.now.tree f g) result }
         ensures remembered { IfOk result (IsRemembered self.new (task.Apply op.now.tree f g)) }
         ensures finished { AnswersFinished self.old self.new (task.Apply op.now.tree f g) result }
         ensures kept { Keeps self.old self.new }
@@ -83,11 +78,10 @@ impl Pkg {
         requires answers { Answers3 (F.pre op.now.call) (F.post op.now.call) op.now.tree }
         requires level { AreLevel self.old f g }
         requires third_level { AreLevel self.old f h }
-        ensures values { IfOk result (λ r. HasValues self.new r f.head.level (ternary_value self.old op.now.tree f g h)) }
-        ensures overflow { IfOverflow result (IsLeastWithout f.head.level (ternary_value self.old op.now.tree f g h)) }
-        ensures added { IfOk result (λ r. AddsOnly self.old.groupings.levels self.new.groupings.levels (triple_parts self.old f g h ++ function_parts self.new r)) }
+        ensures outcome { IsOutcome self.old self.new (task.Ternary op.now.tree f g h) result }
         ensures remembered { IfOk result (IsRemembered self.new (task.Ternary op.now.tree f g h)) }
-        ensures finished { AnswersFinished self.old self.new (task.Ternary op.now.tree f g h) result }
+        ensures finished {
+            AnswersFinished self.old self.new (task.Ternary op.now.tree f g h) result }
         ensures kept { Keeps self.old self.new }
     {
         let tree = &op.tree;

@@ -1,14 +1,13 @@
 //! Operations on functions by their words.
 
-ghost use Rattle.std.specs.Prelude.{◌≡◌, ◌≤◌, ◌+◌, ◌++◌, IfOk};
-ghost use Rattle.cf_build.specs.Assembling.{AddsOnly};
+ghost use Rattle.std.specs.Prelude.{◌≡◌, ◌≤◌, ◌+◌, IfOk};
 ghost use Rattle.cf_ops.specs.Operations.{of_one, of_two, of_three, Answers1, Answers2};
 ghost use Rattle.cf_pkg.specs.Tasks as task;
 ghost use Rattle.cf_pkg.specs.Memos.{IsUndone};
-ghost use Rattle.cf_pkg.specs.Packages.{OwnsFunction, IsRemembered, Keeps, function_parts};
-ghost use Rattle.cf_pkg.specs.Jobs.{AreLevel, map_value, apply_value, ternary_value, HasValues, IsLeastWithout, AnswersFinished};
-ghost use Rattle.cf_pkg.specs.Faults.{IfOverflow};
-ghost use Rattle.cf_pkg.specs.Products.{pair_parts, triple_parts, pair_steps};
+ghost use Rattle.cf_pkg.specs.Packages.{OwnsFunction, IsRemembered, Keeps};
+ghost use Rattle.cf_pkg.specs.Jobs.{AreLevel, AnswersFinished};
+ghost use Rattle.cf_pkg.specs.Products.{pair_steps};
+ghost use Rattle.cf_pkg.specs.Outcomes.{IsOutcome};
 
 use crate::jobs::OpFault;
 use crate::memo::{JobKey, OfOne, OfTwo, Operation};
@@ -28,7 +27,7 @@ fn tree_of_one(alloc: Global, word: Word1) -> Result<Term, NoMemory>
 }
 
 /// The tree of an operation on two numbers.
-fn tree_of_two(alloc: Global, word: Word2) -> Result<Term, NoMemory>
+pub fn tree_of_two(alloc: Global, word: Word2) -> Result<Term, NoMemory>
     ensures { IfOk result (λ t. t ≡ of_two word) }
 {
     let mut both = Vec::new(alloc);
@@ -58,9 +57,7 @@ impl Pkg {
         requires answers { Answers1 (F.pre call) (F.post call) (of_one word) }
         requires owned { OwnsFunction self.old f }
         requires undone { IsUndone self.old.memo (task.Map (of_one word) f) }
-        ensures values { IfOk result (λ r. HasValues self.new r f.head.level (map_value self.old (of_one word) f)) }
-        ensures overflow { IfOverflow result (IsLeastWithout f.head.level (map_value self.old (of_one word) f)) }
-        ensures added { IfOk result (λ r. AddsOnly self.old.groupings.levels self.new.groupings.levels (function_parts self.new r)) }
+        ensures outcome { IsOutcome self.old self.new (task.Map (of_one word) f) result }
         ensures remembered { IfOk result (IsRemembered self.new (task.Map (of_one word) f)) }
         ensures finished { AnswersFinished self.old self.new (task.Map (of_one word) f) result }
         ensures kept { Keeps self.old self.new }
@@ -81,9 +78,7 @@ impl Pkg {
         requires answers { Answers2 (F.pre call) (F.post call) (of_two word) }
         requires level { AreLevel self.old f g }
         requires undone { IsUndone self.old.memo (task.Apply (of_two word) f g) }
-        ensures values { IfOk result (λ r. HasValues self.new r f.head.level (apply_value self.old (of_two word) f g)) }
-        ensures overflow { IfOverflow result (IsLeastWithout f.head.level (apply_value self.old (of_two word) f g)) }
-        ensures added { IfOk result (λ r. AddsOnly self.old.groupings.levels self.new.groupings.levels (pair_parts self.old f g ++ function_parts self.new r)) }
+        ensures outcome { IsOutcome self.old self.new (task.Apply (of_two word) f g) result }
         ensures remembered { IfOk result (IsRemembered self.new (task.Apply (of_two word) f g)) }
         ensures finished { AnswersFinished self.old self.new (task.Apply (of_two word) f g) result }
         ensures kept { Keeps self.old self.new }
@@ -97,9 +92,7 @@ impl Pkg {
     #[tactic(auto, using(cf_ops::proofs::TermFacts::operation_laws))]
     pub fn map_word(&mut self, word: Word1, f: Func) -> Result<Func, OpFault>
         requires owned { OwnsFunction self.old f }
-        ensures values { IfOk result (λ r. HasValues self.new r f.head.level (map_value self.old (of_one word) f)) }
-        ensures overflow { IfOverflow result (IsLeastWithout f.head.level (map_value self.old (of_one word) f)) }
-        ensures added { IfOk result (λ r. AddsOnly self.old.groupings.levels self.new.groupings.levels (function_parts self.new r)) }
+        ensures outcome { IsOutcome self.old self.new (task.Map (of_one word) f) result }
         ensures remembered { IfOk result (IsRemembered self.new (task.Map (of_one word) f)) }
         ensures finished { AnswersFinished self.old self.new (task.Map (of_one word) f) result }
         ensures kept { Keeps self.old self.new }
@@ -124,9 +117,7 @@ impl Pkg {
         steps: &mut Steps<L>,
     ) -> Result<Func, OpFault>
         requires level { AreLevel self.old f g }
-        ensures values { IfOk result (λ r. HasValues self.new r f.head.level (apply_value self.old (of_two word) f g)) }
-        ensures overflow { IfOverflow result (IsLeastWithout f.head.level (apply_value self.old (of_two word) f g)) }
-        ensures added { IfOk result (λ r. AddsOnly self.old.groupings.levels self.new.groupings.levels (pair_parts self.old f g ++ function_parts self.new r)) }
+        ensures outcome { IsOutcome self.old self.new (task.Apply (of_two word) f g) result }
         ensures remembered { IfOk result (IsRemembered self.new (task.Apply (of_two word) f g)) }
         ensures finished { AnswersFinished self.old self.new (task.Apply (of_two word) f g) result }
         ensures kept { Keeps self.old self.new }
@@ -161,9 +152,7 @@ impl Pkg {
     ) -> Result<Func, OpFault>
         requires level { AreLevel self.old f g }
         requires third_level { AreLevel self.old f h }
-        ensures values { IfOk result (λ r. HasValues self.new r f.head.level (ternary_value self.old of_three f g h)) }
-        ensures overflow { IfOverflow result (IsLeastWithout f.head.level (ternary_value self.old of_three f g h)) }
-        ensures added { IfOk result (λ r. AddsOnly self.old.groupings.levels self.new.groupings.levels (triple_parts self.old f g h ++ function_parts self.new r)) }
+        ensures outcome { IsOutcome self.old self.new (task.Ternary of_three f g h) result }
         ensures remembered { IfOk result (IsRemembered self.new (task.Ternary of_three f g h)) }
         ensures finished { AnswersFinished self.old self.new (task.Ternary of_three f g h) result }
         ensures kept { Keeps self.old self.new }

@@ -24,6 +24,7 @@ use cf_text::{
     Text, bits_text, different_text, equal_text, none_text, size_text, stats_text, value_text,
 };
 use cf_witness::{Listing, first_value, separate};
+use std::alloc::Global;
 use std::marker::Brand;
 use std::sync::ledger::{Blank, Ledger};
 
@@ -66,14 +67,20 @@ fn lists(most: i128) -> bool
 }
 
 /// Makes the text the reply of whether two functions are equal.
-fn difference(pkg: &mut Pkg, f: Func, g: Func, text: &mut Text) -> Result<(), NoMemory>
+fn difference(
+    alloc: Global,
+    pkg: &mut Pkg,
+    f: Func,
+    g: Func,
+    text: &mut Text,
+) -> Result<(), NoMemory>
     requires level { AreLevel pkg.old f g }
     requires first { IsFlatFunction (meaning pkg.old f) }
     requires second { IsFlatFunction (meaning pkg.old g) }
     ensures answer { OnOk result (text.new ≡ equal_answer (meaning pkg.old f) (meaning pkg.old g)) }
     ensures kept { Keeps pkg.old pkg.new }
 {
-    match separate(pkg, f, g)? {
+    match separate(alloc, pkg, f, g)? {
         Some(found) => different_text(found.0, found.1, found.2, text),
         None => equal_text(text),
     }
@@ -160,7 +167,7 @@ impl Session {
         if f.head.level != g.head.level {
             return Err(StepFault::Refused(Refusal::LevelsDiffer));
         }
-        Ok(difference(&mut self.pkg, f, g, text)?)
+        Ok(difference(self.alloc, &mut self.pkg, f, g, text)?)
     }
 
     /// Makes the text how large a function is.

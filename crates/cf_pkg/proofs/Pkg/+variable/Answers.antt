@@ -1,7 +1,6 @@
 use Rattle.std.proofs.Common.{ℕ, ◌+◌, ◌-◌, ◌%◌, pos, refl, sym, subst, arith, rules}
 use Rattle.cf_model.specs.Values.{Fits}
 use Rattle.cf_model.specs.Diagrams.{IsGood}
-use Rattle.cf_table.specs.declared.Gid.{Gid}
 use Rattle.cf_table.specs.Groupings.{Groupings}
 use Rattle.cf_build.specs.Assembling.{Stands}
 use Rattle.cf_pkg.specs.declared.memo.JobKey.{JobKey}
@@ -9,14 +8,14 @@ use Rattle.cf_pkg.specs.declared.memo.JobKey.TheVariants as key
 use Rattle.cf_pkg.specs.declared.memo.Alone.TheVariants.{Variable}
 use Rattle.cf_pkg.specs.Basics.{constant_pattern, variable_pattern}
 use Rattle.cf_pkg.specs.Tasks as task
-use Rattle.cf_pkg.specs.Packages.{Package, IsRemembered, Keeps}
+use Rattle.cf_pkg.specs.Packages.{Package, IsRemembered}
 use Rattle.cf_pkg.specs.Jobs.{Finishes}
 use Rattle.cf_pkg.specs.Remembering.{FinishesBelow}
 use Rattle.cf_pkg.proofs.Made.{variable_base, stands_kept, two_rows}
-use Rattle.cf_pkg.proofs.Valued.{Keeps-same, Keeps-trans}
-use Rattle.cf_pkg.proofs.Finishing.{finishes_kept, constant_stands, variable_stands}
-use Rattle.cf_pkg.proofs.Remembering.{variable_is, with_job, remember_keeps, undone_below, below_memo, below_with, below_both}
-use Rattle.cf_pkg.proofs.Doing.{found_answers, new_answers, new_remembered}
+use Rattle.cf_pkg.proofs.BasicParts.{variable_adds}
+use Rattle.cf_pkg.proofs.Finishing.{constant_stands, variable_stands}
+use Rattle.cf_pkg.proofs.Remembering.{variable_is, stands_known, known_is_it, known_below, undone_below, below_memo, below_both, added_known, parts_known}
+use Rattle.cf_pkg.proofs.Doing.{finished_here, undone_here, new_remembered, entered_kept, unentered_kept, adds_none}
 use Rattle.cf_pkg.proofs.Pkg.+variable.Goals as goal
 
 pub known_variable-with_values-requires-clause-fit : goal.known_variable-with_values-requires-clause-fit
@@ -74,9 +73,7 @@ known_variable-remember-requires-clause-is_it t c =
     let q = c.with_values.new.self in
     let f = c.in_ok-made.made in
     let good : IsGood q.groupings.levels = subst (λ (g : Groupings). IsGood g.levels) c.table.ensures c.law.ensures.good in
-    let s : Stands q.groupings.levels f.head c.args.level (variable_pattern c.args.level c.args.i) =
-    subst (λ (g : Groupings). Stands g.levels f.head c.args.level (variable_pattern c.args.level c.args.i)) (sym c.in_ok-made.ensures.groupings)
-    (subst (λ (h : Gid). Stands c.variable_grouping.new.self.groupings.levels h c.args.level (variable_pattern c.args.level c.args.i)) (sym c.in_ok-made.ensures.head) c.in_ok-head.ensures.stands) in
+    let s = stands_known c.variable_grouping.new.self q c.in_ok-head.head f c.args.level (variable_pattern c.args.level c.args.i) c.in_ok-made.ensures.groupings c.in_ok-made.ensures.head c.in_ok-head.ensures.stands in
     variable_is q f c.args.level c.args.i c.requires.level c.requires.variable good s c.in_ok-made.ensures.values
 
 -- what the variable is remembered by
@@ -86,19 +83,19 @@ known_key level i = key.Alone (Variable level i)
 pub known_variable-returns-in-Some-clause-finished : goal.known_variable-returns-in-Some-clause-finished
 known_variable-returns-in-Some-clause-finished t c =
     let p = c.args.self.now in
-    found_answers p p (Keeps-same p) (task.Var c.args.level c.args.i) c.in-Some.known (c.in-Some.ensures) (λ r h. refl)
+    finished_here p (task.Var c.args.level c.args.i) c.in-Some.known c.in-Some.ensures
 
 pub known_variable-returns-in_err-head-clause-finished : goal.known_variable-returns-in_err-head-clause-finished
-known_variable-returns-in_err-head-clause-finished t c = new_answers c.args.self.now c.args.self.now c.variable_grouping.new.self (Keeps-same c.args.self.now) (task.Var c.args.level c.args.i) (c.in_default.ensures) _
+known_variable-returns-in_err-head-clause-finished t c = undone_here c.args.self.now c.variable_grouping.new.self (task.Var c.args.level c.args.i) c.in_default.ensures _
 
 pub known_variable-returns-in_err-made-clause-finished : goal.known_variable-returns-in_err-made-clause-finished
-known_variable-returns-in_err-made-clause-finished t c = new_answers c.args.self.now c.args.self.now c.with_values.new.self (Keeps-same c.args.self.now) (task.Var c.args.level c.args.i) (c.in_default.ensures) _
+known_variable-returns-in_err-made-clause-finished t c = undone_here c.args.self.now c.with_values.new.self (task.Var c.args.level c.args.i) c.in_default.ensures _
 
 pub known_variable-returns-in_err-remember-clause-finished : goal.known_variable-returns-in_err-remember-clause-finished
-known_variable-returns-in_err-remember-clause-finished t c = new_answers c.args.self.now c.args.self.now c.remember.new.self (Keeps-same c.args.self.now) (task.Var c.args.level c.args.i) (c.in_default.ensures) _
+known_variable-returns-in_err-remember-clause-finished t c = undone_here c.args.self.now c.remember.new.self (task.Var c.args.level c.args.i) c.in_default.ensures _
 
 pub known_variable-returns-clause-finished : goal.known_variable-returns-clause-finished
-known_variable-returns-clause-finished t c = new_answers c.args.self.now c.args.self.now c.remember.new.self (Keeps-same c.args.self.now) (task.Var c.args.level c.args.i) (c.in_default.ensures) _
+known_variable-returns-clause-finished t c = undone_here c.args.self.now c.remember.new.self (task.Var c.args.level c.args.i) c.in_default.ensures _
 
 pub known_variable-returns-in_err-head-clause-below : goal.known_variable-returns-in_err-head-clause-below
 known_variable-returns-in_err-head-clause-below t c = below_memo c.args.self.now c.variable_grouping.new.self c.variable_grouping.new.self c.args.level (c.args.level + 1) refl (omega arith) c.variable_grouping.ensures.below
@@ -114,19 +111,16 @@ known_variable-returns-in_err-remember-clause-below t c =
 
 pub known_variable-returns-in_err-remember-clause-kept : goal.known_variable-returns-in_err-remember-clause-kept
 known_variable-returns-in_err-remember-clause-kept t c =
-    subst (λ (x : Package). Keeps c.args.self.now x) (sym c.in_err-remember.ensures.no_memory) (Keeps-trans c.args.self.now c.variable_grouping.new.self c.with_values.new.self c.variable_grouping.ensures.kept c.with_values.ensures.kept)
+    unentered_kept c.args.self.now c.variable_grouping.new.self c.with_values.new.self c.remember.new.self c.in_err-remember.ensures.no_memory c.variable_grouping.ensures.kept c.with_values.ensures.kept
 
 pub known_variable-returns-clause-is_it : goal.known_variable-returns-clause-is_it
 known_variable-returns-clause-is_it t c =
     let q = c.with_values.new.self in
     let f = c.in_ok-made.made in
     let good : IsGood q.groupings.levels = subst (λ (g : Groupings). IsGood g.levels) c.table.ensures c.law.ensures.good in
-    let s : Stands q.groupings.levels f.head c.args.level (variable_pattern c.args.level c.args.i) =
-    subst (λ (g : Groupings). Stands g.levels f.head c.args.level (variable_pattern c.args.level c.args.i)) (sym c.in_ok-made.ensures.groupings)
-    (subst (λ (h : Gid). Stands c.variable_grouping.new.self.groupings.levels h c.args.level (variable_pattern c.args.level c.args.i)) (sym c.in_ok-made.ensures.head) c.in_ok-head.ensures.stands) in
+    let s = stands_known c.variable_grouping.new.self q c.in_ok-head.head f c.args.level (variable_pattern c.args.level c.args.i) c.in_ok-made.ensures.groupings c.in_ok-made.ensures.head c.in_ok-head.ensures.stands in
     let is_it : Finishes q (task.Var c.args.level c.args.i) f = variable_is q f c.args.level c.args.i c.requires.level c.requires.variable good s c.in_ok-made.ensures.values in
-    subst (λ (x : Package). Finishes x (task.Var c.args.level c.args.i) f) (sym c.in_ok-remember.ensures.remembered)
-    (finishes_kept q (with_job q (known_key c.args.level c.args.i) f) (remember_keeps q (known_key c.args.level c.args.i) f) (task.Var c.args.level c.args.i) f is_it)
+    known_is_it q c.remember.new.self (known_key c.args.level c.args.i) (task.Var c.args.level c.args.i) f c.in_ok-remember.ensures.remembered is_it
 
 pub known_variable-returns-clause-remembered : goal.known_variable-returns-clause-remembered
 known_variable-returns-clause-remembered t c =
@@ -136,16 +130,45 @@ known_variable-returns-clause-remembered t c =
 
 pub known_variable-returns-clause-below : goal.known_variable-returns-clause-below
 known_variable-returns-clause-below t c =
-    let q = c.with_values.new.self in
-    let f = c.in_ok-made.made in
-    subst (λ (x : Package). FinishesBelow c.args.self.now x (c.args.level + 1)) (sym c.in_ok-remember.ensures.remembered)
-    (below_with c.args.self.now q (known_key c.args.level c.args.i) f (c.args.level + 1)
-    (below_memo c.args.self.now c.variable_grouping.new.self q c.args.level (c.args.level + 1) c.in_ok-made.ensures.memo (omega arith) c.in_ok-head.ensures.below) (omega arith))
+    known_below c.args.self.now c.variable_grouping.new.self c.with_values.new.self c.remember.new.self (known_key c.args.level c.args.i) c.in_ok-made.made c.args.level (c.args.level + 1) c.in_ok-remember.ensures.remembered c.in_ok-made.ensures.memo (omega arith) (omega arith)
+    c.in_ok-head.ensures.below
 
 pub known_variable-returns-clause-kept : goal.known_variable-returns-clause-kept
 known_variable-returns-clause-kept t c =
-    let p = c.args.self.now in
+    entered_kept c.args.self.now c.variable_grouping.new.self c.with_values.new.self c.remember.new.self (known_key c.args.level c.args.i) c.in_ok-made.made c.in_ok-remember.ensures.remembered c.in_ok-head.ensures.kept c.in_ok-made.ensures.kept
+
+pub variable_grouping-returns-then-level-eq0-clause-added : goal.variable_grouping-returns-then-level-eq0-clause-added
+variable_grouping-returns-then-level-eq0-clause-added t c = adds_none c.args.self.now.groupings c.args.self.now.groupings refl _
+
+pub variable_grouping-returns-clause-added : goal.variable_grouping-returns-clause-added
+variable_grouping-returns-clause-added t c =
+    let p = c.known_constant.new.self in
+    let q = c.known_variable.new.self in
+    let r = c.variable_over.new.self in
+    let l = c.args.level - 1 in
+    let b = c.in_ok-constant.constant in
+    let a = c.in_ok-variable.variable in
+    variable_adds c.args.self.now.groupings p.groupings q.groupings r.groupings c.law-2.ensures.good c.law-3.ensures.good c.variable_over.ensures.good c.in_ok-variable.ensures.kept.groupings c.variable_over.ensures.kept.groupings
+    b.head a.head l c.args.level c.args.i (omega arith) c.requires.variable
+    (constant_stands p c.law-2.ensures.good b c.law-2.ensures.function l _ c.in_ok-constant.ensures.is_it)
+    (subst (λ (h : ℕ). Stands q.groupings.levels a.head l (variable_pattern l (c.args.i % h))) c.half_of.ensures (variable_stands q c.law-3.ensures.good a c.law-3.ensures.function l _ c.in_ok-variable.ensures.is_it))
+    c.in_ok-constant.ensures.added c.in_ok-variable.ensures.added c.variable_over.result c.variable_over.ensures.stands c.variable_over.ensures.added
+
+pub known_variable-returns-in-Some-clause-added : goal.known_variable-returns-in-Some-clause-added
+known_variable-returns-in-Some-clause-added t c = adds_none c.args.self.now.groupings c.args.self.now.groupings refl _
+
+pub known_variable-returns-clause-added : goal.known_variable-returns-clause-added
+known_variable-returns-clause-added t c =
+    added_known c.args.self.now c.variable_grouping.new.self c.with_values.new.self c.remember.new.self (known_key c.args.level c.args.i) c.in_ok-head.head c.in_ok-made.made c.in_ok-made.ensures.groupings c.in_ok-made.ensures.head
+    c.in_ok-remember.ensures.remembered c.in_ok-head.ensures.added
+
+pub known_variable-returns-in-Some-clause-parts : goal.known_variable-returns-in-Some-clause-parts
+known_variable-returns-in-Some-clause-parts t c = c.in-Some.ensures.parts
+
+pub known_variable-returns-clause-parts : goal.known_variable-returns-clause-parts
+known_variable-returns-clause-parts t c =
     let q = c.with_values.new.self in
     let f = c.in_ok-made.made in
-    subst (λ (x : Package). Keeps p x) (sym c.in_ok-remember.ensures.remembered)
-    (Keeps-trans p q (with_job q (known_key c.args.level c.args.i) f) (Keeps-trans p c.variable_grouping.new.self q c.in_ok-head.ensures.kept c.in_ok-made.ensures.kept) (remember_keeps q (known_key c.args.level c.args.i) f))
+    let good : IsGood q.groupings.levels = subst (λ (g : Groupings). IsGood g.levels) c.table.ensures c.law.ensures.good in
+    let s = stands_known c.variable_grouping.new.self q c.in_ok-head.head f c.args.level (variable_pattern c.args.level c.args.i) c.in_ok-made.ensures.groupings c.in_ok-made.ensures.head c.in_ok-head.ensures.stands in
+    parts_known q c.remember.new.self (known_key c.args.level c.args.i) f good s.there c.in_ok-remember.ensures.remembered

@@ -1,4 +1,4 @@
-use Rattle.std.proofs.Common.{◌≡◌, ℕ, ℤ, List, ◌++◌, map, Some, sym, ◌∙◌, ap, subst}
+use Rattle.std.proofs.Common.{rules, ◌≡◌, ℕ, ℤ, List, ◌++◌, map, Some, sym, ◌∙◌, ap, subst}
 use Rattle.std.specs.List.{slice_get, zip}
 use Rattle.cf_model.specs.Functions.{function_of}
 use Rattle.cf_model.specs.Diagrams.{Levels, pattern, IsGood}
@@ -7,15 +7,16 @@ use Rattle.cf_table.specs.declared.Gid.{Gid}
 use Rattle.cf_table.specs.Groupings.{pattern_of}
 use Rattle.cf_build.specs.Assembling.{HasCanon, AddsOnly}
 use Rattle.cf_pkg.specs.declared.Func.{Func}
-use Rattle.cf_pkg.specs.declared.jobs.OpFault.{OpFault}
+use Rattle.cf_pkg.specs.Tasks as task
 use Rattle.cf_pkg.specs.Packages.{Package, Means, values_of, function_parts}
 use Rattle.cf_pkg.specs.Products.{pair_parts}
 use Rattle.cf_pkg.specs.Exits.{apply_each, PairsWithin}
 use Rattle.cf_pkg.specs.Jobs.{AreLevel, apply_value}
-use Rattle.cf_pkg.proofs.Valued.{Worked, worked_gives, worked_long, has_values, fault_exit, fault_least, first_of, err_same, values_read}
+use Rattle.cf_pkg.proofs.Valued.{Worked, worked_gives, worked_long, has_values, fault_exit, fault_least, first_of, values_read}
 use Rattle.cf_pkg.proofs.Works.{apply_worked, pairs_within}
 use Rattle.cf_pkg.proofs.Added.{pair_added}
 use Rattle.cf_pkg.proofs.Remembering.{sound_shown}
+use Rattle.cf_pkg.proofs.Doing.{answered, overflowed}
 use Rattle.cf_pkg.proofs.Pkg.apply_anew.Goals as goal
 
 -- What is known once the pairs of the product and both lists of values were read.
@@ -71,8 +72,8 @@ valued-requires-clause-valued g c =
     worked_long u c.in_ok-head.head c.args.f.head.level (apply_each c.args.op.now.tree c.get-left.result.now c.get-right.result.now c.as_slice.result.now) (apply_value p c.args.op.now.tree c.args.f c.args.g) w
     c.as_slice-in-Ok.result.now (ap (map Some) c.as_slice-in-Ok.ensures.value ∙ c.in-Ok.ensures.values)
 
-pub returns-in-Ok-clause-values : goal.returns-in-Ok-clause-values
-returns-in-Ok-clause-values g c =
+pub returns-in-Ok-clause-outcome : goal.returns-in-Ok-clause-outcome
+returns-in-Ok-clause-outcome g c =
     let p = c.args.self.now in
     let inside : Package = record { groupings = c.self.inside.table; lists = c.self.inside.values; memo = c.self.inside.memo } in
     let u = c.pair.new.table.levels in
@@ -80,22 +81,16 @@ returns-in-Ok-clause-values g c =
     c.in_ok-head.ensures.paired c.as_slice.ensures.value c.self.view_is c.get-left.ensures.list c.get-right.ensures.list in
     let w = worked p c.args.f c.args.g u c.in_ok-head.head c.as_slice.result.now c.get-left.result.now c.get-right.result.now read c.args.op.now.tree in
     let made : Means c.valued.new.self c.in_ok-valued-in-Ok.field-0 (function_of u c.in_ok-head.head.level c.in_ok-head.head.at c.as_slice-in-Ok.result.now) = c.in_ok-valued-in-Ok.ensures.means in
-    has_values u c.valued.new.self c.in_ok-head.head c.in_ok-valued-in-Ok.field-0 c.as_slice-in-Ok.result.now c.args.f.head.level (apply_value p c.args.op.now.tree c.args.f c.args.g)
+    let q = c.valued.new.self in
+    let answer = c.in_ok-valued-in-Ok in
+    answered p q (task.Apply c.args.op.now.tree c.args.f c.args.g) answer.field-0
+    (has_values u c.valued.new.self c.in_ok-head.head c.in_ok-valued-in-Ok.field-0 c.as_slice-in-Ok.result.now c.args.f.head.level (apply_value p c.args.op.now.tree c.args.f c.args.g)
     (worked_gives u c.in_ok-head.head c.args.f.head.level (apply_each c.args.op.now.tree c.get-left.result.now c.get-right.result.now c.as_slice.result.now) (apply_value p c.args.op.now.tree c.args.f c.args.g) w
     c.as_slice-in-Ok.result.now (ap (map Some) c.as_slice-in-Ok.ensures.value ∙ c.in-Ok.ensures.values))
-    made
-
-pub returns-in-Ok-clause-added : goal.returns-in-Ok-clause-added
-returns-in-Ok-clause-added g c =
-    let p = c.args.self.now in
-    let inside : Package = record { groupings = c.self.inside.table; lists = c.self.inside.values; memo = c.self.inside.memo } in
-    let f = c.args.f in
-    let h = c.args.g in
-    let q = c.valued.new.self in
-    let u = c.pair.new.table.levels in
-    let answer = c.in_ok-valued-in-Ok in
-    subst (λ (b : Package). AddsOnly b.groupings.levels q.groupings.levels (pair_parts b f h ++ function_parts q answer.field-0)) c.self.view_is
-    (pair_added inside q f h u c.in_ok-head.head c.in_ok-head.pairs.items answer.field-0 c.in_ok-head.ensures.good answer.ensures.kept.groupings c.in_ok-head.ensures.paired c.in_ok-head.ensures.added answer.ensures.added)
+    made)
+    (subst (λ (b : Package). AddsOnly b.groupings.levels q.groupings.levels (pair_parts b c.args.f c.args.g ++ function_parts q answer.field-0)) c.self.view_is
+    (pair_added inside q c.args.f c.args.g u c.in_ok-head.head c.in_ok-head.pairs.items answer.field-0 c.in_ok-head.ensures.good answer.ensures.kept.groupings c.in_ok-head.ensures.paired c.in_ok-head.ensures.added answer.ensures.added))
+    answer.ensures.parts
 
 pub overflow-requires-clause-exit : goal.overflow-requires-clause-exit
 overflow-requires-clause-exit g c =
@@ -109,8 +104,8 @@ overflow-requires-clause-exit g c =
     fault_exit u c.in_ok-head.head c.args.f.head.level words (apply_value p c.args.op.now.tree c.args.f c.args.g) w c.in-Err.fault
     (first_of c.apply_exits.result words c.in-Err.fault c.in-Err.is c.apply_exits.ensures.first)
 
-pub returns-clause-overflow : goal.returns-clause-overflow
-returns-clause-overflow g c at e =
+pub returns-clause-outcome : goal.returns-clause-outcome
+returns-clause-outcome g c =
     let p = c.args.self.now in
     let inside : Package = record { groupings = c.self.inside.table; lists = c.self.inside.values; memo = c.self.inside.memo } in
     let u = c.pair.new.table.levels in
@@ -118,9 +113,10 @@ returns-clause-overflow g c at e =
     c.in_ok-head.ensures.paired c.as_slice.ensures.value c.self.view_is c.get-left.ensures.list c.get-right.ensures.list in
     let w = worked p c.args.f c.args.g u c.in_ok-head.head c.as_slice.result.now c.get-left.result.now c.get-right.result.now read c.args.op.now.tree in
     let words = apply_each c.args.op.now.tree c.get-left.result.now c.get-right.result.now c.as_slice.result.now in
-    fault_least u c.in_ok-head.head c.args.f.head.level words (apply_value p c.args.op.now.tree c.args.f c.args.g) w c.in-Err.fault
+    overflowed p _ (task.Apply c.args.op.now.tree c.args.f c.args.g) c.overflow.result
+    (fault_least u c.in_ok-head.head c.args.f.head.level words (apply_value p c.args.op.now.tree c.args.f c.args.g) w c.in-Err.fault
     (first_of c.apply_exits.result words c.in-Err.fault c.in-Err.is c.apply_exits.ensures.first)
-    c.overflow.result c.overflow.ensures at (err_same c.overflow.result (OpFault.Overflow at) e)
+    c.overflow.result c.overflow.ensures)
 
 pub invariant_of-self : goal.invariant_of-self
 invariant_of-self g c = sound_shown c.args.self.now c.self.inside.table c.pair.new.table c.self.inside.values c.self.inside.memo c.self.view_is c.law.ensures.good c.in_err-head.ensures.kept c.in_err-head.ensures.tuples c.self.invariant
@@ -130,3 +126,9 @@ invariant_of-self-in-Ok g c = sound_shown c.args.self.now c.self.inside.table c.
 
 pub invariant_of-self-in-Err : goal.invariant_of-self-in-Err
 invariant_of-self-in-Err g c = sound_shown c.args.self.now c.self.inside.table c.pair.new.table c.self.inside.values c.self.inside.memo c.self.view_is c.law.ensures.good c.in_ok-head.ensures.kept c.in_ok-head.ensures.tuples c.self.invariant
+
+pub returns-in_err-head-clause-outcome : goal.returns-in_err-head-clause-outcome
+returns-in_err-head-clause-outcome g c = record { answer = search rules; overflow = search rules }
+
+pub returns-in_err-valued-in-Ok-clause-outcome : goal.returns-in_err-valued-in-Ok-clause-outcome
+returns-in_err-valued-in-Ok-clause-outcome g c = record { answer = search rules; overflow = search rules }

@@ -1,5 +1,6 @@
-use Rattle.std.proofs.Common.{refl, subst}
+use Rattle.std.proofs.Common.{IfOk, refl, subst}
 use Rattle.cf_values.proofs.BookLaws.{Lengthens-same}
+use Rattle.cf_pair.specs.Products.{AddsPartsOf}
 use Rattle.cf_pkg.specs.Packages.{Package, Keeps}
 use Rattle.cf_pkg.proofs.Keeping.{keeps}
 use Rattle.cf_pkg.proofs.Remembering.{sound_above}
@@ -13,3 +14,7 @@ returns-clause-kept c =
     let before : Package = record { groupings = c.self.inside.table; lists = c.self.inside.values; memo = c.self.inside.memo } in
     let now : Package = record { groupings = c.constant_above.new.table; lists = c.self.inside.values; memo = c.self.inside.memo } in
     subst (λ (p : Package). Keeps p now) c.self.view_is (keeps before now c.law.ensures.good c.constant_above.ensures.extends c.constant_above.ensures.longer (Lengthens-same c.self.inside.values c.self.inside.values refl) refl)
+
+pub returns-clause-added : goal.returns-clause-added
+returns-clause-added c =
+    subst (λ (p : Package). IfOk c.constant_above.result (AddsPartsOf p.groupings c.constant_above.new.table)) c.self.view_is c.constant_above.ensures.added

@@ -1,4 +1,4 @@
-use Rattle.std.proofs.Common.{◌≡◌, ℕ, ℤ, List, ◌++◌, map, Some, sym, ◌∙◌, ap, subst}
+use Rattle.std.proofs.Common.{rules, ◌≡◌, ℕ, ℤ, List, ◌++◌, map, Some, sym, ◌∙◌, ap, subst}
 use Rattle.std.specs.List.{slice_get}
 use Rattle.cf_model.specs.Functions.{function_of}
 use Rattle.cf_model.specs.Diagrams.{Levels, pattern, IsGood}
@@ -8,15 +8,16 @@ use Rattle.cf_table.specs.Groupings.{pattern_of}
 use Rattle.cf_build.specs.Assembling.{HasCanon, AddsOnly}
 use Rattle.cf_table.specs.Triples.{zip3}
 use Rattle.cf_pkg.specs.declared.Func.{Func}
-use Rattle.cf_pkg.specs.declared.jobs.OpFault.{OpFault}
+use Rattle.cf_pkg.specs.Tasks as task
 use Rattle.cf_pkg.specs.Packages.{Package, Means, values_of, function_parts}
 use Rattle.cf_pkg.specs.Products.{triple_parts}
 use Rattle.cf_pkg.specs.Exits.{ternary_each, TriplesWithin}
 use Rattle.cf_pkg.specs.Jobs.{AreLevel, ternary_value}
-use Rattle.cf_pkg.proofs.Valued.{Worked, worked_gives, worked_long, has_values, fault_exit, fault_least, first_of, err_same, values_read}
+use Rattle.cf_pkg.proofs.Valued.{Worked, worked_gives, worked_long, has_values, fault_exit, fault_least, first_of, values_read}
 use Rattle.cf_pkg.proofs.Works.{ternary_worked, triples_within}
 use Rattle.cf_pkg.proofs.Added.{triple_added}
 use Rattle.cf_pkg.proofs.Remembering.{sound_shown}
+use Rattle.cf_pkg.proofs.Doing.{answered, overflowed}
 use Rattle.cf_pkg.proofs.Pkg.ternary_anew.Goals as goal
 
 abbrev all_of : Package → Func → Func → Func → List (ℕ × ℕ × ℕ)
@@ -94,8 +95,8 @@ valued-requires-clause-valued g c =
     let w = worked p c.args.f c.args.g c.args.h u r triples us vs ws read c.args.op.now.tree in
     worked_long u r c.args.f.head.level words value w c.as_slice-in-Ok.result.now (ap (map Some) c.as_slice-in-Ok.ensures.value ∙ c.in-Ok.ensures.values)
 
-pub returns-in-Ok-clause-values : goal.returns-in-Ok-clause-values
-returns-in-Ok-clause-values g c =
+pub returns-in-Ok-clause-outcome : goal.returns-in-Ok-clause-outcome
+returns-in-Ok-clause-outcome g c =
     let p = c.args.self.now in
     let inside : Package = record { groupings = c.self.inside.table; lists = c.self.inside.values; memo = c.self.inside.memo } in
     let u = c.triple.new.table.levels in
@@ -110,18 +111,16 @@ returns-in-Ok-clause-values g c =
     let words = ternary_each c.args.op.now.tree us vs ws triples in
     let w = worked p c.args.f c.args.g c.args.h u r triples us vs ws read c.args.op.now.tree in
     let made : Means c.valued.new.self c.in_ok-valued-in-Ok.field-0 (function_of u r.level r.at c.as_slice-in-Ok.result.now) = c.in_ok-valued-in-Ok.ensures.means in
-    has_values u c.valued.new.self r c.in_ok-valued-in-Ok.field-0 c.as_slice-in-Ok.result.now c.args.f.head.level value
-    (worked_gives u r c.args.f.head.level words value w c.as_slice-in-Ok.result.now (ap (map Some) c.as_slice-in-Ok.ensures.value ∙ c.in-Ok.ensures.values))
-    made
-
-pub returns-in-Ok-clause-added : goal.returns-in-Ok-clause-added
-returns-in-Ok-clause-added g c =
-    let inside : Package = record { groupings = c.self.inside.table; lists = c.self.inside.values; memo = c.self.inside.memo } in
     let q = c.valued.new.self in
     let answer = c.in_ok-valued-in-Ok in
-    subst (λ (b : Package). AddsOnly b.groupings.levels q.groupings.levels (triple_parts b c.args.f c.args.g c.args.h ++ function_parts q answer.field-0)) c.self.view_is
+    answered p q (task.Ternary c.args.op.now.tree c.args.f c.args.g c.args.h) answer.field-0
+    (has_values u c.valued.new.self r c.in_ok-valued-in-Ok.field-0 c.as_slice-in-Ok.result.now c.args.f.head.level value
+    (worked_gives u r c.args.f.head.level words value w c.as_slice-in-Ok.result.now (ap (map Some) c.as_slice-in-Ok.ensures.value ∙ c.in-Ok.ensures.values))
+    made)
+    (subst (λ (b : Package). AddsOnly b.groupings.levels q.groupings.levels (triple_parts b c.args.f c.args.g c.args.h ++ function_parts q answer.field-0)) c.self.view_is
     (triple_added inside q c.args.f c.args.g c.args.h c.triple.new.table.levels c.in_ok-head.head c.in_ok-head.triples.items answer.field-0 c.in_ok-head.ensures.good answer.ensures.kept.groupings
-    c.in_ok-head.ensures.tripled c.in_ok-head.ensures.added answer.ensures.added)
+    c.in_ok-head.ensures.tripled c.in_ok-head.ensures.added answer.ensures.added))
+    answer.ensures.parts
 
 pub overflow-requires-clause-exit : goal.overflow-requires-clause-exit
 overflow-requires-clause-exit g c =
@@ -140,8 +139,8 @@ overflow-requires-clause-exit g c =
     let w = worked p c.args.f c.args.g c.args.h u r triples us vs ws read c.args.op.now.tree in
     fault_exit u r c.args.f.head.level words value w c.in-Err.fault (first_of c.ternary_exits.result words c.in-Err.fault c.in-Err.is c.ternary_exits.ensures.first)
 
-pub returns-clause-overflow : goal.returns-clause-overflow
-returns-clause-overflow g c at e =
+pub returns-clause-outcome : goal.returns-clause-outcome
+returns-clause-outcome g c =
     let p = c.args.self.now in
     let inside : Package = record { groupings = c.self.inside.table; lists = c.self.inside.values; memo = c.self.inside.memo } in
     let u = c.triple.new.table.levels in
@@ -155,8 +154,9 @@ returns-clause-overflow g c at e =
     let value = ternary_value p c.args.op.now.tree c.args.f c.args.g c.args.h in
     let words = ternary_each c.args.op.now.tree us vs ws triples in
     let w = worked p c.args.f c.args.g c.args.h u r triples us vs ws read c.args.op.now.tree in
-    fault_least u r c.args.f.head.level words value w c.in-Err.fault (first_of c.ternary_exits.result words c.in-Err.fault c.in-Err.is c.ternary_exits.ensures.first)
-    c.overflow.result c.overflow.ensures at (err_same c.overflow.result (OpFault.Overflow at) e)
+    overflowed p _ (task.Ternary c.args.op.now.tree c.args.f c.args.g c.args.h) c.overflow.result
+    (fault_least u r c.args.f.head.level words value w c.in-Err.fault (first_of c.ternary_exits.result words c.in-Err.fault c.in-Err.is c.ternary_exits.ensures.first)
+    c.overflow.result c.overflow.ensures)
 
 pub invariant_of-self : goal.invariant_of-self
 invariant_of-self g c = sound_shown c.args.self.now c.self.inside.table c.triple.new.table c.self.inside.values c.self.inside.memo c.self.view_is c.law.ensures.good c.in_err-head.ensures.kept c.in_err-head.ensures.tuples c.self.invariant
@@ -166,3 +166,9 @@ invariant_of-self-in-Ok g c = sound_shown c.args.self.now c.self.inside.table c.
 
 pub invariant_of-self-in-Err : goal.invariant_of-self-in-Err
 invariant_of-self-in-Err g c = sound_shown c.args.self.now c.self.inside.table c.triple.new.table c.self.inside.values c.self.inside.memo c.self.view_is c.law.ensures.good c.in_ok-head.ensures.kept c.in_ok-head.ensures.tuples c.self.invariant
+
+pub returns-in_err-head-clause-outcome : goal.returns-in_err-head-clause-outcome
+returns-in_err-head-clause-outcome g c = record { answer = search rules; overflow = search rules }
+
+pub returns-in_err-valued-in-Ok-clause-outcome : goal.returns-in_err-valued-in-Ok-clause-outcome
+returns-in_err-valued-in-Ok-clause-outcome g c = record { answer = search rules; overflow = search rules }

@@ -1,3 +1,4 @@
+use Rattle.std.proofs.Common.{rules}
 use Rattle.cf_session.proofs.Growth.{held, grown_from, flat}
 use Rattle.cf_session.proofs.session.Session.map.Goals as goal
 
@@ -15,3 +16,9 @@ returns-clause-flat c = flat c.map_word.new.self c.in_ok-r.r c.law.ensures.good 
 
 pub returns-clause-grows : goal.returns-clause-grows
 returns-clause-grows c = grown_from _ _ _ c.self.view_is c.self.invariant c.map_word.ensures.kept
+
+pub returns-clause-values : goal.returns-clause-values
+returns-clause-values c = c.in_ok-r.ensures.outcome.answer.values
+
+pub returns-in_err-r-clause-fault : goal.returns-in_err-r-clause-fault
+returns-in_err-r-clause-fault c = (let fact = c.map_word.ensures.outcome.overflow in search (rules, fact))
