@@ -1,17 +1,17 @@
 //! The expressions of a line.
 
-ghost use Rattle.std.specs.Prelude.{◌≡◌, ◌<◌, [], length, None, IfOk, IfSome, IfNone, IsErrOf};
+ghost use Rattle.std.specs.Prelude.{◌≡◌, ◌<◌, [], length, true, false, None, IfOk, IfSome, IfNone, IsErrOf};
 ghost use Rattle.cf_reference.specs.Words.{words};
 ghost use Rattle.cf_reference.specs.Heads.{head_of as head_of_word, kind_at as kind_of, takes as takes_of, signature};
 ghost use Rattle.cf_reference.specs.Trees.{Call};
 ghost use Rattle.cf_reference.specs.Grammar.{leaf as leaf_of, atom_of as atom_of_word};
 ghost use Rattle.cf_script.specs.Views.{tree_of};
-ghost use Rattle.cf_script.specs.Arguments.{IsWord, OfKinds, held, gathered, HasShape, IsArgument, SpellsNoArgument, AreGathered, SpellsNoArguments};
+ghost use Rattle.cf_script.specs.Arguments.{IsWord, OfKinds, held, gathered, is_list, IsArgument, IsCall, SpellsNoArgument, AreGathered, AreListed, SpellsNoArguments};
 ghost use Rattle.cf_script.specs.Readings.{IsReading, IsLeaf, SpellsNone};
 
 use crate::arguments::{Argument, Gathered};
 use crate::numbers::{natural, number, place};
-use crate::trees::{Expr, Var};
+use crate::trees::{Expr, Exprs, Var};
 use crate::words::{after, is_name, next_word};
 use cf_ops::{NoMemory, Word1, Word2};
 use cf_reference::grammar::{Head, Kind};
@@ -37,6 +37,7 @@ impl From<AllocError> for Fault {
 
 /// The expression that a text begins with, and the text behind it. A number that doesn't fit is read as 0.
 #[cycle(expressions)]
+#[inline(always)]
 pub(crate) fn read_expr<'a>(alloc: Global, text: &'a [u8]) -> Result<(Expr<'a>, &'a [u8]), Fault>
     ensures found { IfOk result (λ r. IsReading r.0 (words text.now) (words r.1.now)) }
     ensures shorter { IfOk result (λ r. length r.1.now < length text.now) }
@@ -47,10 +48,7 @@ pub(crate) fn read_expr<'a>(alloc: Global, text: &'a [u8]) -> Result<(Expr<'a>, 
     };
     match after(b'(', rest) {
         Some(inside) => match head_of(word) {
-            Some(head) => {
-                let (args, rest) = read_arguments(alloc, head, inside)?;
-                Ok((call(alloc, head, args)?, rest))
-            }
+            Some(head) => read_call(alloc, head, inside),
             None => Err(Fault::Malformed),
         },
         None => match leaf(word) {
@@ -61,6 +59,7 @@ pub(crate) fn read_expr<'a>(alloc: Global, text: &'a [u8]) -> Result<(Expr<'a>, 
 }
 
 /// The expression that a word spells by itself.
+#[inline(always)]
 fn leaf(word: &[u8]) -> Option<Expr<'_>>
     ensures found { IfSome result (λ e. IsLeaf e word.now) }
     ensures none { IfNone result (leaf_of word.now ≡ None) }
@@ -199,24 +198,60 @@ fn read_argument<'a>(
     }
 }
 
-/// The arguments of a head, with commas between them, up to `)`.
+/// The call of a head, from the text behind its `(`.
 #[cycle(expressions)]
-fn read_arguments<'a>(
-    alloc: Global,
-    head: Head,
-    text: &'a [u8],
-) -> Result<(Gathered<'a>, &'a [u8]), Fault>
-    ensures found { IfOk result (λ r. AreGathered head r.0 (words text.now) (words r.1.now)) }
-    ensures shape { IfOk result (λ r. HasShape head r.0) }
+#[inline(never)]
+fn read_call<'a>(alloc: Global, head: Head, text: &'a [u8]) -> Result<(Expr<'a>, &'a [u8]), Fault>
+    ensures found { IfOk result (λ r. IsCall head r.0 (words text.now) (words r.1.now)) }
     ensures shorter { IfOk result (λ r. length r.1.now < length text.now) }
     ensures only { IsErrOf result Fault.Malformed → SpellsNoArguments head (words text.now) }
 {
-    let mut args = Gathered::new(alloc, head);
-    let rest = gather(alloc, head, &mut args, text)?;
-    Ok((args, rest))
+    match head {
+        Head::Fold(word) => {
+            let (es, rest) = read_list(alloc, head, text)?;
+            Ok((Expr::Fold(word, es), rest))
+        }
+        Head::Ite => {
+            let (es, rest) = read_list(alloc, head, text)?;
+            Ok((Expr::Ite(es), rest))
+        }
+        Head::Const | Head::One(_) => {
+            let mut args = Gathered::Empty;
+            let rest = gather(alloc, head, &mut args, text)?;
+            Ok((call(alloc, head, args)?, rest))
+        }
+    }
 }
 
-/// Gathers the arguments of a head where there are none so far.
+/// The arguments of a head that keeps a list of them, with commas between them, up to `)`.
+#[cycle(expressions)]
+fn read_list<'a>(alloc: Global, head: Head, text: &'a [u8]) -> Result<(Exprs<'a>, &'a [u8]), Fault>
+    requires { is_list head ≡ true }
+    ensures found { IfOk result (λ r. AreListed head r.0 (words text.now) (words r.1.now)) }
+    ensures shorter { IfOk result (λ r. length r.1.now < length text.now) }
+    ensures only { IsErrOf result Fault.Malformed → SpellsNoArguments head (words text.now) }
+{
+    let mut es = Exprs::with_capacity(alloc, 2)?;
+    let (first, mut end) = read_expr(alloc, text)?;
+    es.push(first)?;
+    while let Some(more) = after(b',', end) {
+        let (e, rest) = read_expr(alloc, more)?;
+        es.push(e)?;
+        end = rest;
+    }
+    match after(b')', end) {
+        Some(rest) => {
+            if takes(head, es.items().len()) {
+                Ok((es, rest))
+            } else {
+                Err(Fault::Malformed)
+            }
+        }
+        None => Err(Fault::Malformed),
+    }
+}
+
+/// Gathers the arguments of a head that keeps no list of them, where there are none so far.
 #[cycle(expressions)]
 fn gather<'a>(
     alloc: Global,
@@ -225,20 +260,19 @@ fn gather<'a>(
     text: &'a [u8],
 ) -> Result<&'a [u8], Fault>
     requires none { gathered args.old ≡ [] }
-    requires shape { HasShape head args.old }
+    requires few { is_list head ≡ false }
     ensures found { IfOk result (λ r. AreGathered head args.new (words text.now) (words r.now)) }
-    ensures shape { IfOk result (λ r. HasShape head args.new) }
     ensures shorter { IfOk result (λ r. length r.now < length text.now) }
     ensures only { IsErrOf result Fault.Malformed → SpellsNoArguments head (words text.now) }
 {
     let (first, mut end) = read_argument(alloc, kind_at(head, 0), text)?;
-    args.push(first)?;
+    args.push(first);
     while let Some(more) = after(b',', end) {
         if args.is_full() {
             return Err(Fault::Malformed);
         }
         let (argument, rest) = read_argument(alloc, kind_at(head, args.len()), more)?;
-        args.push(argument)?;
+        args.push(argument);
         end = rest;
     }
     match after(b')', end) {
@@ -253,10 +287,10 @@ fn gather<'a>(
     }
 }
 
-/// The call of a head with the arguments that it takes.
+/// The call of a head that keeps no list of its arguments, with those that it takes.
 fn call<'a>(alloc: Global, head: Head, args: Gathered<'a>) -> Result<Expr<'a>, NoMemory>
     requires kinds { OfKinds (signature head).first (signature head).further (gathered args) }
-    requires shape { HasShape head args }
+    requires few { is_list head ≡ false }
     ensures { IfOk result (λ e. tree_of e ≡ Call head (held (gathered args.entry))) }
 {
     match head {
@@ -265,7 +299,6 @@ fn call<'a>(alloc: Global, head: Head, args: Gathered<'a>) -> Result<Expr<'a>, N
             Ok(Expr::Const(level, n))
         }
         Head::One(word) => Ok(Expr::One(word, Box::new(alloc, args.expr())?)),
-        Head::Fold(word) => Ok(Expr::Fold(word, args.exprs())),
-        Head::Ite => Ok(Expr::Ite(args.exprs())),
+        Head::Fold(_) | Head::Ite => unreachable!(),
     }
 }

@@ -50,6 +50,7 @@ fn are_digits(word: &[u8]) -> bool
 }
 
 /// The number that a word of at most 18 digits spells. It is far from the bounds.
+#[inline(always)]
 fn short_natural(word: &[u8]) -> Option<u64>
     requires { length word.now ≤ 18 }
     ensures digits { IfSome result (λ n. list_all is_ascii_digit word.now ≡ true) }
@@ -67,6 +68,8 @@ fn short_natural(word: &[u8]) -> Option<u64>
 }
 
 /// The number that a word of digits spells, however many there are.
+#[cold]
+#[inline(never)]
 fn long_natural(word: &[u8]) -> Option<Option<i128>>
     ensures { result ≡ option_map fitting (natural_of word.now) }
 {
@@ -80,6 +83,7 @@ fn long_natural(word: &[u8]) -> Option<Option<i128>>
 }
 
 /// The number that a word of digits spells, and none inside where it doesn't fit.
+#[inline(always)]
 pub(crate) fn natural(word: &[u8]) -> Option<Option<i128>>
     ensures { result ≡ option_map fitting (natural_of word.now) }
 {
@@ -112,6 +116,7 @@ pub(crate) fn number(word: &[u8]) -> Option<Option<i128>>
 }
 
 /// The position that `@` and digits spell, and none inside where it doesn't fit.
+#[inline(always)]
 pub(crate) fn place(word: &[u8]) -> Option<Option<i128>>
     ensures { result ≡ option_map fitting (place_of word.now) }
 {
