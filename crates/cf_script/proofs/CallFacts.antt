@@ -216,20 +216,13 @@ pub pushed-listed : (es first : List Expr) (e : Expr) → es ≡ first ++ e ∷ 
 pushed-listed es first e is = ap as_arguments is ∙ one-more first e
 
 -- the call of a list
-pub fold-call : (word : Word2) (head : Head) (es : Exprs) (all rest : List (List ℕ)) → head ≡ Fold word → AreListed (Fold word) es all rest → IsCall head (expr.Fold word es) all rest
-fold-call word head es all rest is r =
-    subst (λ (d : Head). IsCall d (expr.Fold word es) all rest) (sym is) (record {
-      arguments = as_arguments es.items.items;
-      read = r;
-      same = fold_listed word es ∙ ap (Call (Fold word)) (sym (held_listed es.items.items));
-    })
+pub fold-call : (word : Word2) (head : Head) (es : Exprs) → head ≡ Fold word → tree_of (expr.Fold word es) ≡ Call head (held (as_arguments es.items.items))
+fold-call word head es is =
+    fold_listed word es ∙ ap (Call (Fold word)) (sym (held_listed es.items.items)) ∙ ap (λ (d : Head). Call d (held (as_arguments es.items.items))) (sym is)
 
-pub ite-call : (head : Head) (es : Exprs) (all rest : List (List ℕ)) → head ≡ Ite → AreListed head es all rest → IsCall head (expr.Ite es) all rest
-ite-call head es all rest is r = record {
-  arguments = as_arguments es.items.items;
-  read = r;
-  same = ite_listed es ∙ ap (Call Ite) (sym (held_listed es.items.items)) ∙ ap (λ (d : Head). Call d (held (as_arguments es.items.items))) (sym is);
-}
+pub ite-call : (head : Head) (es : Exprs) → head ≡ Ite → tree_of (expr.Ite es) ≡ Call head (held (as_arguments es.items.items))
+ite-call head es is =
+    ite_listed es ∙ ap (Call Ite) (sym (held_listed es.items.items)) ∙ ap (λ (d : Head). Call d (held (as_arguments es.items.items))) (sym is)
 
 -- an error that is handed on
 pub handed-on : {T E : Type 0} (P : E → Type 0) (m : E) (r : Result T E) → IsErrAnd r P → r ≡ Err m → P m

@@ -6,7 +6,7 @@ ghost use Rattle.cf_reference.specs.Heads.{head_of as head_of_word, kind_at as k
 ghost use Rattle.cf_reference.specs.Trees.{Call};
 ghost use Rattle.cf_reference.specs.Grammar.{leaf as leaf_of, atom_of as atom_of_word};
 ghost use Rattle.cf_script.specs.Views.{tree_of};
-ghost use Rattle.cf_script.specs.Arguments.{IsWord, OfKinds, held, gathered, is_list, IsArgument, IsCall, SpellsNoArgument, AreGathered, AreListed, SpellsNoArguments};
+ghost use Rattle.cf_script.specs.Arguments.{IsWord, OfKinds, held, as_arguments, gathered, is_list, IsArgument, IsCall, SpellsNoArgument, AreGathered, AreListed, SpellsNoArguments};
 ghost use Rattle.cf_script.specs.Readings.{IsReading, IsLeaf, SpellsNone};
 
 use crate::arguments::{Argument, Gathered};
@@ -207,20 +207,26 @@ fn read_call<'a>(alloc: Global, head: Head, text: &'a [u8]) -> Result<(Expr<'a>,
     ensures only { IsErrOf result Fault.Malformed → SpellsNoArguments head (words text.now) }
 {
     match head {
-        Head::Fold(word) => {
+        Head::Fold(_) | Head::Ite => {
             let (es, rest) = read_list(alloc, head, text)?;
-            Ok((Expr::Fold(word, es), rest))
+            Ok((list_call(head, es), rest))
         }
-        Head::Ite => {
-            let (es, rest) = read_list(alloc, head, text)?;
-            Ok((Expr::Ite(es), rest))
-        }
-        Head::Const | Head::One(_) => {
-            let mut args = Gathered::Empty;
-            let rest = gather(alloc, head, &mut args, text)?;
-            Ok((call(alloc, head, args)?, rest))
-        }
+        Head::Const | Head::One(_) => read_few(alloc, head, text),
     }
+}
+
+/// The call of a head that keeps no list of its arguments, from the text behind its `(`.
+#[cycle(expressions)]
+#[inline(never)]
+fn read_few<'a>(alloc: Global, head: Head, text: &'a [u8]) -> Result<(Expr<'a>, &'a [u8]), Fault>
+    requires { is_list head ≡ false }
+    ensures found { IfOk result (λ r. IsCall head r.0 (words text.now) (words r.1.now)) }
+    ensures shorter { IfOk result (λ r. length r.1.now < length text.now) }
+    ensures only { IsErrOf result Fault.Malformed → SpellsNoArguments head (words text.now) }
+{
+    let mut args = Gathered::Empty;
+    let rest = gather(alloc, head, &mut args, text)?;
+    Ok((few_call(alloc, head, args)?, rest))
 }
 
 /// The arguments of a head that keeps a list of them, with commas between them, up to `)`.
@@ -288,7 +294,7 @@ fn gather<'a>(
 }
 
 /// The call of a head that keeps no list of its arguments, with those that it takes.
-fn call<'a>(alloc: Global, head: Head, args: Gathered<'a>) -> Result<Expr<'a>, NoMemory>
+fn few_call<'a>(alloc: Global, head: Head, args: Gathered<'a>) -> Result<Expr<'a>, NoMemory>
     requires kinds { OfKinds (signature head).first (signature head).further (gathered args) }
     requires few { is_list head ≡ false }
     ensures { IfOk result (λ e. tree_of e ≡ Call head (held (gathered args.entry))) }
@@ -300,5 +306,17 @@ fn call<'a>(alloc: Global, head: Head, args: Gathered<'a>) -> Result<Expr<'a>, N
         }
         Head::One(word) => Ok(Expr::One(word, Box::new(alloc, args.expr())?)),
         Head::Fold(_) | Head::Ite => unreachable!(),
+    }
+}
+
+/// The call of a head that keeps a list of its arguments.
+fn list_call<'a>(head: Head, es: Exprs<'a>) -> Expr<'a>
+    requires { is_list head ≡ true }
+    ensures { tree_of result ≡ Call head (held (as_arguments es.entry.items.items)) }
+{
+    match head {
+        Head::Fold(word) => Expr::Fold(word, es),
+        Head::Ite => Expr::Ite(es),
+        Head::Const | Head::One(_) => unreachable!(),
     }
 }

@@ -7,7 +7,7 @@ use Rattle.cf_reference.specs.Grammar.{lead}
 use Rattle.cf_script.specs.declared.expressions.Fault.TheVariants.{Malformed}
 use Rattle.cf_script.specs.Arguments.{gathered, as_arguments, IsArgument, SpellsNoArgument}
 use Rattle.cf_script.specs.declared.arguments.Argument.TheVariants as argument
-use Rattle.cf_script.proofs.CallFacts.{none-empty, is-call, none-inside, none-called, is-leaf, none-leaf, argument-read, argument-word, none-argument, of-kinds, too-many, handed-on, if-ok, listed-read, listed-none, pushed-listed, as_many, fold-call, ite-call}
+use Rattle.cf_script.proofs.CallFacts.{none-empty, is-call, none-inside, none-called, is-leaf, none-leaf, argument-read, argument-word, none-argument, of-kinds, too-many, handed-on, if-ok, listed-read, listed-none, pushed-listed, as_many}
 use Rattle.cf_script.proofs.ListFacts.{front-none, ends-none, front-more, ends-more, front-whole, no-next, no-end, other-number, pushed-length}
 use Rattle.cf_script.proofs.expressions.+expressions.Goals as goal
 
@@ -118,14 +118,6 @@ gather-returns-else-takes-clause-only t c = λ e.
 pub gather-returns-in-None-clause-only : goal.gather-returns-in-None-clause-only
 gather-returns-in-None-clause-only t c = λ e.
     no-end c.args.head c.loop-more.invariant.ends.0 (words c.args.text.now) (words c.loop-more.end.now) c.loop-more.invariant.ends.2 c.in_default.ensures.none c.in-None.ensures.none
-
-pub read_call-returns-in_ok-es-in-Fold-clause-found : goal.read_call-returns-in_ok-es-in-Fold-clause-found
-read_call-returns-in_ok-es-in-Fold-clause-found t c =
-    fold-call c.in-Fold.word c.args.head c.in_ok-es-in-Fold.es (words c.args.text.now) (words c.in_ok-es-in-Fold.rest.now) c.in-Fold.is c.in_ok-es-in-Fold.ensures.found
-
-pub read_call-returns-in_ok-es-in-Ite-clause-found : goal.read_call-returns-in_ok-es-in-Ite-clause-found
-read_call-returns-in_ok-es-in-Ite-clause-found t c =
-    ite-call c.args.head c.in_ok-es-in-Ite.es (words c.args.text.now) (words c.in_ok-es-in-Ite.rest.now) c.in-Ite.is c.in_ok-es-in-Ite.ensures.found
 
 pub read_list-returns-in_err-first-clause-only : goal.read_list-returns-in_err-first-clause-only
 read_list-returns-in_err-first-clause-only t c = λ e.

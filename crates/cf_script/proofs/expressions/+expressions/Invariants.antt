@@ -8,7 +8,10 @@ abbrev pub decreases-read_expr : goal.decreases-read_expr
 decreases-read_expr l = 3 * length l.text.now
 
 abbrev pub decreases-read_call : goal.decreases-read_call
-decreases-read_call l = 3 * length l.text.now + 3
+decreases-read_call l = 3 * length l.text.now + 4
+
+abbrev pub decreases-read_few : goal.decreases-read_few
+decreases-read_few l = 3 * length l.text.now + 3
 
 abbrev pub decreases-read_list : goal.decreases-read_list
 decreases-read_list l = 3 * length l.text.now + 2
