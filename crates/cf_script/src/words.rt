@@ -54,8 +54,23 @@ pub(crate) fn next_word(text: &[u8]) -> Option<(&[u8], &[u8])>
     Some(text.split_at(word_length(text)))
 }
 
-/// The text from its first byte that is no blank.
+/// The text from its first byte that is no blank. Mostly that is its first byte.
 fn skip_blanks(text: &[u8]) -> Option<&[u8]>
+    ensures same { IfSome result (λ r. words text.now ≡ words r.now) }
+    ensures behind { IfSome result (λ r. behind_word text.now ≡ behind_word r.now) }
+    ensures begins { IfSome result (λ r. is_blank_byte (get_or r.now 0 0) ≡ false) }
+    ensures some { IfSome result (λ r. 0 < length r.now) }
+    ensures shorter { IfSome result (λ r. length r.now ≤ length text.now) }
+    ensures none { IfNone result (words text.now ≡ []) }
+{
+    if !text.is_empty() && !is_blank(text[0]) {
+        return Some(text);
+    }
+    from_visible(text)
+}
+
+#[inline(never)]
+fn from_visible(text: &[u8]) -> Option<&[u8]>
     ensures same { IfSome result (λ r. words text.now ≡ words r.now) }
     ensures behind { IfSome result (λ r. behind_word text.now ≡ behind_word r.now) }
     ensures begins { IfSome result (λ r. is_blank_byte (get_or r.now 0 0) ≡ false) }
