@@ -8,7 +8,6 @@ use Rattle.cf_reference.specs.Heads.{kind_at, takes}
 use Rattle.cf_reference.specs.Trees.{Call, Arguments, none, more, atom, Atom, Number, count, atom_fits, arguments_fit}
 use Rattle.cf_reference.specs.Grammar.{atom_of as atom_of_word, SpellsTree, SpellsArguments}
 use Rattle.cf_script.specs.declared.trees.Expr.{Expr}
-use Rattle.cf_script.specs.declared.trees.Exprs.{Exprs}
 use Rattle.cf_script.specs.declared.arguments.Gathered.{Gathered}
 use Rattle.cf_script.specs.declared.arguments.Gathered.TheVariants as form
 use Rattle.cf_script.specs.declared.arguments.Argument.{Argument}
@@ -109,10 +108,6 @@ pub record IsCall (head : Head) (e : Expr) (all rest : List (List ℕ)) : Type 0
   pub arguments : List Argument
   pub read : AreReadings head arguments all rest
   pub same : tree_of e ≡ Call head (held arguments)
-
--- The same for a list of expressions.
-abbrev pub AreListed : Head → Exprs → List (List ℕ) → List (List ℕ) → Type 0
-AreListed head es all rest = AreReadings head (as_arguments es.items.items) all rest
 
 abbrev pub SpellsNoArgument : Kind → List (List ℕ) → Type 0
 SpellsNoArgument kind all = (es : Arguments) (rest : List (List ℕ)) → SpellsOne kind es all rest → ⊥

@@ -6,7 +6,7 @@ ghost use Rattle.cf_reference.specs.Heads.{head_of as head_of_word, kind_at as k
 ghost use Rattle.cf_reference.specs.Trees.{Call};
 ghost use Rattle.cf_reference.specs.Grammar.{leaf as leaf_of, atom_of as atom_of_word};
 ghost use Rattle.cf_script.specs.Views.{tree_of};
-ghost use Rattle.cf_script.specs.Arguments.{IsWord, OfKinds, held, as_arguments, gathered, is_list, IsArgument, IsCall, SpellsNoArgument, AreGathered, AreListed, SpellsNoArguments};
+ghost use Rattle.cf_script.specs.Arguments.{IsWord, OfKinds, held, as_arguments, gathered, is_list, IsArgument, IsCall, SpellsNoArgument, AreGathered, SpellsNoArguments};
 ghost use Rattle.cf_script.specs.Readings.{IsReading, IsLeaf, SpellsNone};
 
 use crate::arguments::{Argument, Gathered};
@@ -207,10 +207,7 @@ fn read_call<'a>(alloc: Global, head: Head, text: &'a [u8]) -> Result<(Expr<'a>,
     ensures only { IsErrOf result Fault.Malformed → SpellsNoArguments head (words text.now) }
 {
     match head {
-        Head::Fold(_) | Head::Ite => {
-            let (es, rest) = read_list(alloc, head, text)?;
-            Ok((list_call(head, es), rest))
-        }
+        Head::Fold(_) | Head::Ite => read_list(alloc, head, text),
         Head::Const | Head::One(_) => read_few(alloc, head, text),
     }
 }
@@ -229,11 +226,11 @@ fn read_few<'a>(alloc: Global, head: Head, text: &'a [u8]) -> Result<(Expr<'a>, 
     Ok((few_call(alloc, head, args)?, rest))
 }
 
-/// The arguments of a head that keeps a list of them, with commas between them, up to `)`.
+/// The call of a head that keeps a list of its arguments, from the text behind its `(`.
 #[cycle(expressions)]
-fn read_list<'a>(alloc: Global, head: Head, text: &'a [u8]) -> Result<(Exprs<'a>, &'a [u8]), Fault>
+fn read_list<'a>(alloc: Global, head: Head, text: &'a [u8]) -> Result<(Expr<'a>, &'a [u8]), Fault>
     requires { is_list head ≡ true }
-    ensures found { IfOk result (λ r. AreListed head r.0 (words text.now) (words r.1.now)) }
+    ensures found { IfOk result (λ r. IsCall head r.0 (words text.now) (words r.1.now)) }
     ensures shorter { IfOk result (λ r. length r.1.now < length text.now) }
     ensures only { IsErrOf result Fault.Malformed → SpellsNoArguments head (words text.now) }
 {
@@ -248,7 +245,7 @@ fn read_list<'a>(alloc: Global, head: Head, text: &'a [u8]) -> Result<(Exprs<'a>
     match after(b')', end) {
         Some(rest) => {
             if takes(head, es.items().len()) {
-                Ok((es, rest))
+                Ok((list_call(head, es), rest))
             } else {
                 Err(Fault::Malformed)
             }

@@ -103,8 +103,8 @@ fn word_length(text: &[u8]) -> usize
     if is_sign(text[0]) {
         return 1;
     }
-    match run_end(text) {
-        Some(end) => end,
+    match run_end(&text[1..]) {
+        Some(end) => end + 1,
         None => text.len(),
     }
 }

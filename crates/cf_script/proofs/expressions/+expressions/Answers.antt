@@ -168,10 +168,14 @@ read_list-loop-more-preserved t c =
 
 pub read_list-returns-then-takes-clause-found : goal.read_list-returns-then-takes-clause-found
 read_list-returns-then-takes-clause-found t c =
-    let many = as_many c.loop-more.es.items.items in
-    front-whole c.args.head c.loop-more.invariant.ends.0 (as_arguments c.loop-more.es.items.items) (words c.args.text.now) (words c.loop-more.end.now) (words c.in-Some-after.rest.now)
-    c.loop-more.invariant.ends.1 c.loop-more.invariant.front c.in-Some-after.ensures.found
-    (ap (takes c.args.head) (many ∙ sym (ap length c.items.ensures)) ∙ sym c.takes.ensures ∙ c.if-takes.true)
+    let es = c.loop-more.es.items.items in
+    record {
+      arguments = as_arguments es;
+      read = front-whole c.args.head c.loop-more.invariant.ends.0 (as_arguments es) (words c.args.text.now) (words c.loop-more.end.now) (words c.in-Some-after.rest.now)
+          c.loop-more.invariant.ends.1 c.loop-more.invariant.front c.in-Some-after.ensures.found
+          (ap (takes c.args.head) (as_many es ∙ sym (ap length c.items.ensures)) ∙ sym c.takes.ensures ∙ c.if-takes.true);
+      same = c.list_call.ensures;
+    }
 
 pub read_list-returns-in-Some-after-clause-only : goal.read_list-returns-in-Some-after-clause-only
 read_list-returns-in-Some-after-clause-only t c = λ e.
