@@ -176,6 +176,7 @@ fn bit(word: &[u8]) -> Option<i128>
 
 /// An argument of a kind, and the text behind it.
 #[cycle(expressions)]
+#[inline(always)]
 fn read_argument<'a>(
     alloc: Global,
     kind: Kind,
@@ -200,7 +201,7 @@ fn read_argument<'a>(
 
 /// The call of a head, from the text behind its `(`.
 #[cycle(expressions)]
-#[inline(never)]
+#[inline(always)]
 fn read_call<'a>(alloc: Global, head: Head, text: &'a [u8]) -> Result<(Expr<'a>, &'a [u8]), Fault>
     ensures found { IfOk result (λ r. IsCall head r.0 (words text.now) (words r.1.now)) }
     ensures shorter { IfOk result (λ r. length r.1.now < length text.now) }
@@ -228,6 +229,7 @@ fn read_few<'a>(alloc: Global, head: Head, text: &'a [u8]) -> Result<(Expr<'a>, 
 
 /// The call of a head that keeps a list of its arguments, from the text behind its `(`.
 #[cycle(expressions)]
+#[inline(never)]
 fn read_list<'a>(alloc: Global, head: Head, text: &'a [u8]) -> Result<(Expr<'a>, &'a [u8]), Fault>
     requires { is_list head ≡ true }
     ensures found { IfOk result (λ r. IsCall head r.0 (words text.now) (words r.1.now)) }
