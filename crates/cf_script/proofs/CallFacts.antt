@@ -1,6 +1,6 @@
 -- From the parts of an expression that were read to the whole of it.
 use Rattle.std.proofs.Common.{ℕ, zero, suc, ◌≡◌, ◌≤◌, Bool, ◌&&◌, true, false, List, [], ◌∷◌, ◌++◌, length, Option, Some, None, Result, Ok, Err, refl, ap, sym, subst, ◌∙◌, arith}
-use Rattle.std.specs.Prelude.{IsTrue}
+use Rattle.std.specs.Prelude.{IsTrue, IfOk}
 use Rattle.std.specs.Result.{IsErrAnd}
 use Rattle.std.proofs.lemmas.Bool.{false≢true}
 use Rattle.std.proofs.lemmas.Bool.Decides.{nat_tests}
@@ -15,6 +15,8 @@ use Rattle.cf_reference.proofs.SpellingLaws.{spells-call, not-open, leaves, spel
 use Rattle.cf_reference.proofs.GrammarLaws.{some_is, inv_leaf, inv_call}
 use Rattle.cf_script.proofs.ReadingFacts.{no-expression}
 use Rattle.cf_script.specs.declared.trees.Expr.{Expr}
+use Rattle.cf_script.specs.declared.trees.Expr as expr
+use Rattle.cf_model.specs.declared.terms.Word2.{Word2}
 use Rattle.cf_script.specs.declared.arguments.Argument.{Argument}
 use Rattle.cf_script.specs.declared.arguments.Argument.TheVariants as argument
 use Rattle.cf_model.specs.declared.terms.Word2.TheVariants.{And, Or, Xor, Plus, Minus, Times, Min, Max, Eq, Lt}
@@ -23,9 +25,10 @@ use Rattle.cf_script.specs.declared.trees.Exprs.{Exprs}
 use Rattle.cf_script.specs.declared.arguments.Gathered.{Gathered}
 use Rattle.cf_script.specs.declared.arguments.Gathered.TheVariants as form
 use Rattle.cf_script.specs.Views.{tree_of, listed}
+use Rattle.cf_script.proofs.Rows.{fold_listed, ite_listed}
 use Rattle.cf_script.proofs.ListFacts.{HasEnds, more_behind}
 use Rattle.cf_script.specs.Readings.{IsReading, IsLeaf, SpellsNone}
-use Rattle.cf_script.specs.Arguments.{held, as_arguments, gathered, has_two, is_list, HasShape, IsList, IsFew, HasRoom, IsOf, OfKinds, HaveKinds, IsWord, IsArgument, AreReadings, SpellsNoArgument, SpellsNoArguments}
+use Rattle.cf_script.specs.Arguments.{held, as_arguments, gathered, has_two, is_list, IsOf, OfKinds, HaveKinds, IsWord, IsArgument, IsCall, AreReadings, SpellsNoArgument, SpellsNoArguments}
 
 nil_leaf : (t : Tree) (rest : List (List ℕ)) → SpellsLeaf t [] rest → ⊥
 nil_leaf t rest h = let e = h.words in cc
@@ -40,12 +43,12 @@ none-empty all is t rest h = at t (subst (λ a. SpellsTree t a rest) is h)
     at (Named name) h = nil_leaf (Named name) rest h
     at (Call head es) h = let e = h.1.words in cc
 
-pub is-call : (head : Head) (args : List Argument) (e : Expr) (word : List ℕ) (all next inside rest : List (List ℕ)) → all ≡ word ∷ next → next ≡ open_sign ∷ inside → Some head ≡ head_of word
-    → AreReadings head args inside rest → tree_of e ≡ Call head (held args) → IsReading e all rest
-is-call head args e word all next inside rest is open_is of r same = record {
-  tree = Call head r.spelled;
-  spells = spells-call head r.spelled word all inside rest (is ∙ ap (λ l. word ∷ l) open_is) (sym of) (ap (takes head) r.long ∙ r.number) r.spells;
-  shows = λ fit. same ∙ ap (Call head) (r.shows fit);
+pub is-call : (head : Head) (e : Expr) (word : List ℕ) (all next inside rest : List (List ℕ)) → all ≡ word ∷ next → next ≡ open_sign ∷ inside → Some head ≡ head_of word
+    → IsCall head e inside rest → IsReading e all rest
+is-call head e word all next inside rest is open_is of r = record {
+  tree = Call head r.read.spelled;
+  spells = spells-call head r.read.spelled word all inside rest (is ∙ ap (λ l. word ∷ l) open_is) (sym of) (ap (takes head) r.read.long ∙ r.read.number) r.read.spells;
+  shows = λ fit. r.same ∙ ap (Call head) (r.read.shows fit);
 }
 
 pub none-inside : (head : Head) (word : List ℕ) (all next inside : List (List ℕ)) → all ≡ word ∷ next → next ≡ open_sign ∷ inside → Some head ≡ head_of word
@@ -165,7 +168,7 @@ in_three : (i : ℕ) → kind_in (AnExpression ∷ AnExpression ∷ AnExpression
 in_three zero = refl
 in_three (suc i) = in_none i
 
-list_kind : (head : Head) (i : ℕ) → is_list head ≡ true → kind_at head i ≡ AnExpression
+pub list_kind : (head : Head) (i : ℕ) → is_list head ≡ true → kind_at head i ≡ AnExpression
 list_kind Const i h = absurd (false≢true h)
 list_kind (One word) i h = absurd (false≢true h)
 list_kind (Fold Minus) i h = in_none i
@@ -180,17 +183,6 @@ list_kind (Fold Min) i h = in_some i
 list_kind (Fold Max) i h = in_some i
 list_kind Ite i h = in_three i
 
-is_expr : (es : Exprs) (a : Argument) → IsOf AnExpression a → HasRoom (form.List es) a
-is_expr es (argument.Expr e) h = tt
-is_expr es (argument.Var v) h = absurd h
-is_expr es (argument.Number n) h = absurd h
-
-pub has-room : (head : Head) (args : Gathered) (a : Argument) (i : ℕ) → HasShape head args → has_two args ≡ false → IsOf (kind_at head i) a → HasRoom args a
-has-room head form.Empty a i h few is = tt
-has-room head (form.One b) a i h few is = tt
-has-room head (form.Two b c) a i h few is = absurd (false≢true (sym few))
-has-room head (form.List es) a i h few is = is_expr es a (subst (λ (k : Kind). IsOf k a) (list_kind head i h) is)
-
 -- a call that keeps no list has at most two arguments
 few_taken : (head : Head) (n : ℕ) → is_list head ≡ false → takes head n ≡ true → n ≤ 2
 few_taken Const n h t = grind (arith, nat_tests)
@@ -198,35 +190,46 @@ few_taken (One word) n h t = grind (arith, nat_tests)
 few_taken (Fold word) n h t = absurd (false≢true (sym h))
 few_taken Ite n h t = absurd (false≢true (sym h))
 
-two_shaped : (head : Head) (args : Gathered) → HasShape head args → has_two args ≡ true → (is_list head ≡ false) × (length (gathered args) ≡ 2)
-two_shaped head form.Empty h two = absurd (false≢true two)
-two_shaped head (form.One b) h two = absurd (false≢true two)
-two_shaped head (form.Two b c) h two = (h, refl)
-two_shaped head (form.List es) h two = absurd (false≢true two)
+two_long : (args : Gathered) → has_two args ≡ true → length (gathered args) ≡ 2
+two_long form.Empty two = absurd (false≢true two)
+two_long (form.One b) two = absurd (false≢true two)
+two_long (form.Two b c) two = refl
 
 -- no call has what comes behind two
-pub too-many : (head : Head) (args : Gathered) (n : ℕ) (all end after : List (List ℕ)) → HasShape head args → has_two args ≡ true → length (gathered args) ≡ suc n → HasEnds head (suc n) all end
+pub too-many : (head : Head) (args : Gathered) (n : ℕ) (all end after : List (List ℕ)) → is_list head ≡ false → has_two args ≡ true → length (gathered args) ≡ suc n → HasEnds head (suc n) all end
     → end ≡ comma ∷ after → SpellsNoArguments head all
-too-many head args n all end after shape two long e is ts rest number h =
-    let few = two_shaped head args shape two in
+too-many head args n all end after few two long e is ts rest number h =
     let k = e.ends ts rest h in
     let some = more_behind head n k.0 end after rest is k.1 in
-    let most = few_taken head (count ts) few.0 number in
-    absurd (omega (arith, few.1, long, k.2, some, most))
+    let most = few_taken head (count ts) few number in
+    absurd (omega (arith, two_long args two, long, k.2, some, most))
 
-pub list-shaped : (head : Head) (args : Gathered) → HasShape head args → is_list head ≡ true → IsList args
-list-shaped head form.Empty h list = absurd (false≢true (sym h ∙ list))
-list-shaped head (form.One b) h list = absurd (false≢true (sym h ∙ list))
-list-shaped head (form.Two b c) h list = absurd (false≢true (sym h ∙ list))
-list-shaped head (form.List es) h list = tt
+-- an expression as an argument of a call that keeps a list
+pub listed-read : (head : Head) (i : ℕ) (e : Expr) (all rest : List (List ℕ)) → is_list head ≡ true → IsReading e all rest → IsArgument (kind_at head i) (argument.Expr e) all rest
+listed-read head i e all rest list r = argument-read (kind_at head i) e all rest (list_kind head i list) r
 
-pub few-shaped : (head : Head) (args : Gathered) → HasShape head args → is_list head ≡ false → IsFew args
-few-shaped head form.Empty h few = tt
-few-shaped head (form.One b) h few = tt
-few-shaped head (form.Two b c) h few = tt
-few-shaped head (form.List es) h few = absurd (false≢true (sym few ∙ h))
+pub listed-none : (head : Head) (i : ℕ) (all : List (List ℕ)) → is_list head ≡ true → SpellsNone all → SpellsNoArgument (kind_at head i) all
+listed-none head i all list nothing = none-argument (kind_at head i) all (list_kind head i list) nothing
+
+-- a list is longer by an expression
+pub pushed-listed : (es first : List Expr) (e : Expr) → es ≡ first ++ e ∷ [] → as_arguments es ≡ as_arguments first ++ argument.Expr e ∷ []
+pushed-listed es first e is = ap as_arguments is ∙ one-more first e
+
+-- the call of a list
+pub fold-call : (word : Word2) (head : Head) (es : Exprs) → head ≡ Fold word → tree_of (expr.Fold word es) ≡ Call head (held (as_arguments es.items.items))
+fold-call word head es is =
+    fold_listed word es ∙ ap (Call (Fold word)) (sym (held_listed es.items.items)) ∙ ap (λ (d : Head). Call d (held (as_arguments es.items.items))) (sym is)
+
+pub ite-call : (head : Head) (es : Exprs) → head ≡ Ite → tree_of (expr.Ite es) ≡ Call head (held (as_arguments es.items.items))
+ite-call head es is =
+    ite_listed es ∙ ap (Call Ite) (sym (held_listed es.items.items)) ∙ ap (λ (d : Head). Call d (held (as_arguments es.items.items))) (sym is)
 
 -- an error that is handed on
 pub handed-on : {T E : Type 0} (P : E → Type 0) (m : E) (r : Result T E) → IsErrAnd r P → r ≡ Err m → P m
 handed-on P m (Ok x) h e = cc
 handed-on P m (Err x) h e = let is : x ≡ m = cc in subst P is h
+
+-- what holds of a value that was read, from what the reader says of it
+pub if-ok : {T E : Type 0} (r : Result T E) (P Q : T → Type 0) → IfOk r P → ((x : T) → P x → Q x) → IfOk r Q
+if-ok (Ok x) P Q h f = f x h
+if-ok (Err e) P Q h f = tt

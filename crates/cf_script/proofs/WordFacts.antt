@@ -1,6 +1,7 @@
 -- How a text's words stand to the first byte of each kind.
-use Rattle.std.proofs.Common.{ℕ, zero, suc, ◌≡◌, ◌<◌, ◌+◌, ◌==◌, ◌||◌, Bool, true, false, not, cond, List, [], ◌∷◌, take, drop, get_or, length, Some, None, refl, ap, sym, ◌∙◌, arith}
-use Rattle.std.specs.Prelude.{Option, IfNone, position, slice_index}
+use Rattle.std.proofs.Common.{ℕ, zero, suc, ◌≡◌, ◌<◌, ◌+◌, ◌-◌, ◌==◌, ◌||◌, Bool, true, false, not, cond, List, [], ◌∷◌, take, drop, get_or, length, Some, None, refl, ap, sym, ◌∙◌, arith}
+use Rattle.std.specs.Prelude.{Option, IfNone, IfSome, position, slice_index}
+use Rattle.std.proofs.lemmas.List.{get_or-take, length-take, take_rest}
 use Rattle.memchr.specs.Find.{IsFirstByte, is_byte}
 use Rattle.std.specs.List.{position_from}
 use Rattle.std.proofs.lemmas.Iterator.Adapters.{position_from-zero}
@@ -85,11 +86,11 @@ unfolding words
 word-sign [] some visible sign = absurd (omega arith)
 word-sign (b ∷ rest) some visible sign = rw (visible, sign) refl
 
-by_run : (b : ℕ) (rest : List ℕ) → is_blank b ≡ false → is_sign b ≡ false → words (b ∷ rest) ≡ cond (begins_run rest) (lengthen b (words rest)) ((b ∷ []) ∷ words rest)
+pub by_run : (b : ℕ) (rest : List ℕ) → is_blank b ≡ false → is_sign b ≡ false → words (b ∷ rest) ≡ cond (begins_run rest) (lengthen b (words rest)) ((b ∷ []) ∷ words rest)
 unfolding words
 by_run b rest visible sign = rw (visible, sign) refl
 
-run_parts : (b : ℕ) → runs b ≡ true → (is_blank b ≡ false) × (is_sign b ≡ false)
+pub run_parts : (b : ℕ) → runs b ≡ true → (is_blank b ≡ false) × (is_sign b ≡ false)
 run_parts b is = at (is_blank b) (is_sign b) is
   where
     at : (x y : Bool) → not (x || y) ≡ true → (x ≡ false) × (y ≡ false)
@@ -132,26 +133,23 @@ unfolding words
 none_of [] = refl
 none_of (b ∷ rest) = none_of rest
 
--- a run of bytes is a word, up to the first byte that ends it
-pub word-run : (text : List ℕ) (end : ℕ) → 0 < length text → is_blank (get_or text 0 0) ≡ false → is_sign (get_or text 0 0) ≡ false → position ends_run text ≡ Some end
-    → (0 < end) × (words text ≡ take end text ∷ words (drop end text))
+pub behind-first : (text : List ℕ) (place : Option ℕ) → place ≡ position ends_run (take (length text - 1) (drop 1 text)) → position ends_run (drop 1 text) ≡ place
+behind-first text place is = ap (position ends_run) (sym (take_rest text 1)) ∙ sym is
+
+-- a run of bytes is a word, up to the first byte behind its first that ends it
+pub word-run : (text : List ℕ) (end : ℕ) → 0 < length text → is_blank (get_or text 0 0) ≡ false → is_sign (get_or text 0 0) ≡ false → position ends_run (drop 1 text) ≡ Some end
+    → words text ≡ take (end + 1) text ∷ words (drop (end + 1) text)
 word-run [] end some visible sign place = absurd (omega arith)
 word-run (b ∷ rest) end some visible sign place =
-    let first : ends_run b ≡ false = rw (visible, sign) refl in
-    let from : cond (ends_run b) (Some 0) (position_from ends_run 1 rest) ≡ Some end = sym (position_from-zero ends_run (b ∷ rest)) ∙ place in
-    let later : position_from ends_run 1 rest ≡ Some end = (rw first at from) in
-    let r = run_at b rest 1 end visible sign later in
-    let e : end ≡ suc r.0 = omega (arith, r.1) in
-    (omega arith, rw e r.2)
+    let r = run_at b rest 0 end visible sign (sym (position_from-zero ends_run rest) ∙ place) in
+    let e : end + 1 ≡ suc r.0 = omega (arith, r.1) in
+    rw e r.2
 
-pub word-whole : (text : List ℕ) → 0 < length text → is_blank (get_or text 0 0) ≡ false → is_sign (get_or text 0 0) ≡ false → position ends_run text ≡ None
+pub word-whole : (text : List ℕ) → 0 < length text → is_blank (get_or text 0 0) ≡ false → is_sign (get_or text 0 0) ≡ false → position ends_run (drop 1 text) ≡ None
     → words text ≡ take (length text) text ∷ words (drop (length text) text)
 word-whole [] some visible sign place = absurd (omega arith)
 word-whole (b ∷ rest) some visible sign place =
-    let first : ends_run b ≡ false = rw (visible, sign) refl in
-    let from : cond (ends_run b) (Some 0) (position_from ends_run 1 rest) ≡ None = sym (position_from-zero ends_run (b ∷ rest)) ∙ place in
-    let later : position_from ends_run 1 rest ≡ None = (rw first at from) in
-    rw (all_of rest, none_of rest) (run_whole b rest 1 visible sign later)
+    rw (all_of rest, none_of rest) (run_whole b rest 0 visible sign (sym (position_from-zero ends_run rest) ∙ place))
 
 -- the bytes behind a run, up to the byte that ends it
 behind_at : (rest : List ℕ) (k place : ℕ) → position_from ends_run k rest ≡ Some place
@@ -186,26 +184,20 @@ behind-sign [] some visible sign = absurd (omega arith)
 behind-sign (b ∷ rest) some visible sign = rw (visible, sign) refl
 
 pub behind-run : (text : List ℕ) (end : ℕ) → 0 < length text → is_blank (get_or text 0 0) ≡ false
-    → is_sign (get_or text 0 0) ≡ false → position ends_run text ≡ Some end → behind_word text ≡ drop end text
+    → is_sign (get_or text 0 0) ≡ false → position ends_run (drop 1 text) ≡ Some end → behind_word text ≡ drop (end + 1) text
 unfolding behind_word
 behind-run [] end some visible sign place = absurd (omega arith)
 behind-run (b ∷ rest) end some visible sign place =
-    let first : ends_run b ≡ false = rw (visible, sign) refl in
-    let from : cond (ends_run b) (Some 0) (position_from ends_run 1 rest) ≡ Some end = sym (position_from-zero ends_run (b ∷ rest)) ∙ place in
-    let later : position_from ends_run 1 rest ≡ Some end = (rw first at from) in
-    let r = behind_at rest 1 end later in
-    let e : end ≡ suc r.0 = omega (arith, r.1) in
+    let r = behind_at rest 0 end (sym (position_from-zero ends_run rest) ∙ place) in
+    let e : end + 1 ≡ suc r.0 = omega (arith, r.1) in
     rw (visible, sign, e) r.2
 
 pub behind-whole : (text : List ℕ) → 0 < length text → is_blank (get_or text 0 0) ≡ false
-    → is_sign (get_or text 0 0) ≡ false → position ends_run text ≡ None → behind_word text ≡ drop (length text) text
+    → is_sign (get_or text 0 0) ≡ false → position ends_run (drop 1 text) ≡ None → behind_word text ≡ drop (length text) text
 unfolding behind_word
 behind-whole [] some visible sign place = absurd (omega arith)
 behind-whole (b ∷ rest) some visible sign place =
-    let first : ends_run b ≡ false = rw (visible, sign) refl in
-    let from : cond (ends_run b) (Some 0) (position_from ends_run 1 rest) ≡ None = sym (position_from-zero ends_run (b ∷ rest)) ∙ place in
-    let later : position_from ends_run 1 rest ≡ None = (rw first at from) in
-    rw (visible, sign) (behind_none rest 1 later)
+    rw (visible, sign) (behind_none rest 0 (sym (position_from-zero ends_run rest) ∙ place))
 
 -- a sign is the first word of the text that it begins
 pub sign-before : (text rest : List ℕ) (sign : ℕ) → text ≡ sign ∷ rest → is_blank sign ≡ false → is_sign sign ≡ true → words text ≡ (sign ∷ []) ∷ words rest
@@ -234,3 +226,16 @@ pub none-behind : {A : Type 0} (o : Option A) (text : List ℕ) (sign : ℕ) →
     → IfNone o ((rest : List ℕ) → text ≡ sign ∷ rest → ⊥) → IfNone o ((more : List (List ℕ)) → words text ≡ (sign ∷ []) ∷ more → ⊥)
 none-behind (Some x) text sign some visible none = tt
 none-behind None text sign some visible none = λ more h. let first = sign-first text sign more some visible h in none first.0 first.1
+
+-- a place in the front of a text
+taken_within : (n k : ℕ) (text : List ℕ) → k < length (take n text) → k < n
+taken_within n k text h = omega (arith, h, length-take n text)
+
+pub early-within : (o : Option ℕ) (n : ℕ) (text : List ℕ) → IfSome o (λ k. k < length (take n text)) → IfSome o (λ k. k < n)
+early-within None n text h = tt
+early-within (Some k) n text h = taken_within n k text h
+
+pub early-ends : (o : Option ℕ) (n : ℕ) (text : List ℕ) → IfSome o (λ k. k < length (take n text)) → IfSome o (λ k. runs (get_or (take n text) k 0) ≡ false)
+    → IfSome o (λ k. runs (get_or text k 0) ≡ false)
+early-ends None n text within ends = tt
+early-ends (Some k) n text within ends = sym (ap runs (get_or-take n text k 0 (taken_within n k text within))) ∙ ends

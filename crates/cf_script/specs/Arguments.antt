@@ -5,7 +5,7 @@ use Rattle.cf_reference.specs.declared.grammar.Head.TheVariants.{Fold, Ite}
 use Rattle.cf_reference.specs.declared.grammar.Kind.{Kind}
 use Rattle.cf_reference.specs.declared.grammar.Kind.TheVariants.{Expression as AnExpression, Variable as AVariable, Natural as ANatural, Number as ANumber, Bit as ABit}
 use Rattle.cf_reference.specs.Heads.{kind_at, takes}
-use Rattle.cf_reference.specs.Trees.{Arguments, none, more, atom, Atom, Number, count, atom_fits, arguments_fit}
+use Rattle.cf_reference.specs.Trees.{Call, Arguments, none, more, atom, Atom, Number, count, atom_fits, arguments_fit}
 use Rattle.cf_reference.specs.Grammar.{atom_of as atom_of_word, SpellsTree, SpellsArguments}
 use Rattle.cf_script.specs.declared.trees.Expr.{Expr}
 use Rattle.cf_script.specs.declared.arguments.Gathered.{Gathered}
@@ -50,7 +50,6 @@ abbrev pub gathered : Gathered → List Argument
 gathered form.Empty = []
 gathered (form.One a) = a ∷ []
 gathered (form.Two a b) = a ∷ b ∷ []
-gathered (form.List es) = as_arguments es.items.items
 
 abbrev pub has_two : Gathered → Bool
 has_two (form.Two a b) = true
@@ -62,33 +61,9 @@ is_list (Fold word) = true
 is_list Ite = true
 is_list other = false
 
--- Arguments are gathered in the form in which a head's call keeps them.
-abbrev pub HasShape : Head → Gathered → Type 0
-HasShape head (form.List es) = is_list head ≡ true
-HasShape head other = is_list head ≡ false
-
-abbrev pub IsList : Gathered → Type 0
-IsList (form.List es) = Unit {0}
-IsList other = ⊥
-
-abbrev pub IsFew : Gathered → Type 0
-IsFew (form.List es) = ⊥
-IsFew other = Unit {0}
-
 abbrev pub HasOne : Gathered → Type 0
 HasOne (form.One a) = Unit {0}
 HasOne other = ⊥
-
--- Both are in the form in which any head's call keeps them that keeps the first so.
-abbrev pub KeepsShape : Gathered → Gathered → Type 0
-KeepsShape old new = (head : Head) → HasShape head old → HasShape head new
-
--- An argument can come behind those that were gathered.
-abbrev pub HasRoom : Gathered → Argument → Type 0
-HasRoom (form.Two a b) c = ⊥
-HasRoom (form.List es) (argument.Expr e) = Unit {0}
-HasRoom (form.List es) other = ⊥
-HasRoom other a = Unit {0}
 
 -- the kind of each place
 abbrev pub HaveKinds : (ℕ → Kind) → List Argument → Type 0
@@ -127,6 +102,12 @@ pub record AreReadings (head : Head) (args : List Argument) (all rest : List (Li
 -- The same for arguments as they are gathered.
 abbrev pub AreGathered : Head → Gathered → List (List ℕ) → List (List ℕ) → Type 0
 AreGathered head args all rest = AreReadings head (gathered args) all rest
+
+-- An expression is the call of a head with arguments that the words begin with.
+pub record IsCall (head : Head) (e : Expr) (all rest : List (List ℕ)) : Type 0 where
+  pub arguments : List Argument
+  pub read : AreReadings head arguments all rest
+  pub same : tree_of e ≡ Call head (held arguments)
 
 abbrev pub SpellsNoArgument : Kind → List (List ℕ) → Type 0
 SpellsNoArgument kind all = (es : Arguments) (rest : List (List ℕ)) → SpellsOne kind es all rest → ⊥

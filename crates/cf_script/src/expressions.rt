@@ -1,17 +1,17 @@
 //! The expressions of a line.
 
-ghost use Rattle.std.specs.Prelude.{◌≡◌, ◌<◌, [], length, None, IfOk, IfSome, IfNone, IsErrOf};
+ghost use Rattle.std.specs.Prelude.{◌≡◌, ◌<◌, [], length, true, false, None, IfOk, IfSome, IfNone, IsErrOf};
 ghost use Rattle.cf_reference.specs.Words.{words};
 ghost use Rattle.cf_reference.specs.Heads.{head_of as head_of_word, kind_at as kind_of, takes as takes_of, signature};
 ghost use Rattle.cf_reference.specs.Trees.{Call};
 ghost use Rattle.cf_reference.specs.Grammar.{leaf as leaf_of, atom_of as atom_of_word};
 ghost use Rattle.cf_script.specs.Views.{tree_of};
-ghost use Rattle.cf_script.specs.Arguments.{IsWord, OfKinds, held, gathered, HasShape, IsArgument, SpellsNoArgument, AreGathered, SpellsNoArguments};
+ghost use Rattle.cf_script.specs.Arguments.{IsWord, OfKinds, held, as_arguments, gathered, is_list, IsArgument, IsCall, SpellsNoArgument, AreGathered, SpellsNoArguments};
 ghost use Rattle.cf_script.specs.Readings.{IsReading, IsLeaf, SpellsNone};
 
 use crate::arguments::{Argument, Gathered};
 use crate::numbers::{natural, number, place};
-use crate::trees::{Expr, Var};
+use crate::trees::{Expr, Exprs, Var};
 use crate::words::{after, is_name, next_word};
 use cf_ops::{NoMemory, Word1, Word2};
 use cf_reference::grammar::{Head, Kind};
@@ -37,6 +37,7 @@ impl From<AllocError> for Fault {
 
 /// The expression that a text begins with, and the text behind it. A number that doesn't fit is read as 0.
 #[cycle(expressions)]
+#[inline(always)]
 pub(crate) fn read_expr<'a>(alloc: Global, text: &'a [u8]) -> Result<(Expr<'a>, &'a [u8]), Fault>
     ensures found { IfOk result (λ r. IsReading r.0 (words text.now) (words r.1.now)) }
     ensures shorter { IfOk result (λ r. length r.1.now < length text.now) }
@@ -47,10 +48,7 @@ pub(crate) fn read_expr<'a>(alloc: Global, text: &'a [u8]) -> Result<(Expr<'a>, 
     };
     match after(b'(', rest) {
         Some(inside) => match head_of(word) {
-            Some(head) => {
-                let (args, rest) = read_arguments(alloc, head, inside)?;
-                Ok((call(alloc, head, args)?, rest))
-            }
+            Some(head) => read_call(alloc, head, inside),
             None => Err(Fault::Malformed),
         },
         None => match leaf(word) {
@@ -61,14 +59,15 @@ pub(crate) fn read_expr<'a>(alloc: Global, text: &'a [u8]) -> Result<(Expr<'a>, 
 }
 
 /// The expression that a word spells by itself.
+#[inline(always)]
 fn leaf(word: &[u8]) -> Option<Expr<'_>>
     ensures found { IfSome result (λ e. IsLeaf e word.now) }
     ensures none { IfNone result (leaf_of word.now ≡ None) }
 {
-    if let Some(value) = number(word) {
-        Some(Expr::Num(value.unwrap_or(0)))
-    } else if let Some(position) = place(word) {
+    if let Some(position) = place(word) {
         Some(Expr::At(position.unwrap_or(0)))
+    } else if let Some(value) = number(word) {
+        Some(Expr::Num(value.unwrap_or(0)))
     } else if is_name(word) {
         Some(Expr::Named(word))
     } else {
@@ -81,36 +80,22 @@ fn leaf(word: &[u8]) -> Option<Expr<'_>>
 fn head_of(word: &[u8]) -> Option<Head>
     ensures { result ≡ head_of_word word.now }
 {
-    if word == b"const".as_slice() {
-        Some(Head::Const)
-    } else if word == b"not".as_slice() {
-        Some(Head::One(Word1::Not))
-    } else if word == b"neg".as_slice() {
-        Some(Head::One(Word1::Neg))
-    } else if word == b"and".as_slice() {
-        Some(Head::Fold(Word2::And))
-    } else if word == b"or".as_slice() {
-        Some(Head::Fold(Word2::Or))
-    } else if word == b"xor".as_slice() {
-        Some(Head::Fold(Word2::Xor))
-    } else if word == b"plus".as_slice() {
-        Some(Head::Fold(Word2::Plus))
-    } else if word == b"minus".as_slice() {
-        Some(Head::Fold(Word2::Minus))
-    } else if word == b"times".as_slice() {
-        Some(Head::Fold(Word2::Times))
-    } else if word == b"min".as_slice() {
-        Some(Head::Fold(Word2::Min))
-    } else if word == b"max".as_slice() {
-        Some(Head::Fold(Word2::Max))
-    } else if word == b"eq".as_slice() {
-        Some(Head::Fold(Word2::Eq))
-    } else if word == b"lt".as_slice() {
-        Some(Head::Fold(Word2::Lt))
-    } else if word == b"ite".as_slice() {
-        Some(Head::Ite)
-    } else {
-        None
+    match word {
+        b"const" => Some(Head::Const),
+        b"not" => Some(Head::One(Word1::Not)),
+        b"neg" => Some(Head::One(Word1::Neg)),
+        b"and" => Some(Head::Fold(Word2::And)),
+        b"or" => Some(Head::Fold(Word2::Or)),
+        b"xor" => Some(Head::Fold(Word2::Xor)),
+        b"plus" => Some(Head::Fold(Word2::Plus)),
+        b"minus" => Some(Head::Fold(Word2::Minus)),
+        b"times" => Some(Head::Fold(Word2::Times)),
+        b"min" => Some(Head::Fold(Word2::Min)),
+        b"max" => Some(Head::Fold(Word2::Max)),
+        b"eq" => Some(Head::Fold(Word2::Eq)),
+        b"lt" => Some(Head::Fold(Word2::Lt)),
+        b"ite" => Some(Head::Ite),
+        _ => None,
     }
 }
 
@@ -191,6 +176,7 @@ fn bit(word: &[u8]) -> Option<i128>
 
 /// An argument of a kind, and the text behind it.
 #[cycle(expressions)]
+#[inline(always)]
 fn read_argument<'a>(
     alloc: Global,
     kind: Kind,
@@ -213,24 +199,64 @@ fn read_argument<'a>(
     }
 }
 
-/// The arguments of a head, with commas between them, up to `)`.
+/// The call of a head, from the text behind its `(`.
 #[cycle(expressions)]
-fn read_arguments<'a>(
-    alloc: Global,
-    head: Head,
-    text: &'a [u8],
-) -> Result<(Gathered<'a>, &'a [u8]), Fault>
-    ensures found { IfOk result (λ r. AreGathered head r.0 (words text.now) (words r.1.now)) }
-    ensures shape { IfOk result (λ r. HasShape head r.0) }
+#[inline(always)]
+fn read_call<'a>(alloc: Global, head: Head, text: &'a [u8]) -> Result<(Expr<'a>, &'a [u8]), Fault>
+    ensures found { IfOk result (λ r. IsCall head r.0 (words text.now) (words r.1.now)) }
     ensures shorter { IfOk result (λ r. length r.1.now < length text.now) }
     ensures only { IsErrOf result Fault.Malformed → SpellsNoArguments head (words text.now) }
 {
-    let mut args = Gathered::new(alloc, head);
-    let rest = gather(alloc, head, &mut args, text)?;
-    Ok((args, rest))
+    match head {
+        Head::Fold(_) | Head::Ite => read_list(alloc, head, text),
+        Head::Const | Head::One(_) => read_few(alloc, head, text),
+    }
 }
 
-/// Gathers the arguments of a head where there are none so far.
+/// The call of a head that keeps no list of its arguments, from the text behind its `(`.
+#[cycle(expressions)]
+#[inline(never)]
+fn read_few<'a>(alloc: Global, head: Head, text: &'a [u8]) -> Result<(Expr<'a>, &'a [u8]), Fault>
+    requires { is_list head ≡ false }
+    ensures found { IfOk result (λ r. IsCall head r.0 (words text.now) (words r.1.now)) }
+    ensures shorter { IfOk result (λ r. length r.1.now < length text.now) }
+    ensures only { IsErrOf result Fault.Malformed → SpellsNoArguments head (words text.now) }
+{
+    let mut args = Gathered::Empty;
+    let rest = gather(alloc, head, &mut args, text)?;
+    Ok((few_call(alloc, head, args)?, rest))
+}
+
+/// The call of a head that keeps a list of its arguments, from the text behind its `(`.
+#[cycle(expressions)]
+#[inline(never)]
+fn read_list<'a>(alloc: Global, head: Head, text: &'a [u8]) -> Result<(Expr<'a>, &'a [u8]), Fault>
+    requires { is_list head ≡ true }
+    ensures found { IfOk result (λ r. IsCall head r.0 (words text.now) (words r.1.now)) }
+    ensures shorter { IfOk result (λ r. length r.1.now < length text.now) }
+    ensures only { IsErrOf result Fault.Malformed → SpellsNoArguments head (words text.now) }
+{
+    let mut es = Exprs::with_capacity(alloc, 2)?;
+    let (first, mut end) = read_expr(alloc, text)?;
+    es.push(first)?;
+    while let Some(more) = after(b',', end) {
+        let (e, rest) = read_expr(alloc, more)?;
+        es.push(e)?;
+        end = rest;
+    }
+    match after(b')', end) {
+        Some(rest) => {
+            if takes(head, es.items().len()) {
+                Ok((list_call(head, es), rest))
+            } else {
+                Err(Fault::Malformed)
+            }
+        }
+        None => Err(Fault::Malformed),
+    }
+}
+
+/// Gathers the arguments of a head that keeps no list of them, where there are none so far.
 #[cycle(expressions)]
 fn gather<'a>(
     alloc: Global,
@@ -239,20 +265,19 @@ fn gather<'a>(
     text: &'a [u8],
 ) -> Result<&'a [u8], Fault>
     requires none { gathered args.old ≡ [] }
-    requires shape { HasShape head args.old }
+    requires few { is_list head ≡ false }
     ensures found { IfOk result (λ r. AreGathered head args.new (words text.now) (words r.now)) }
-    ensures shape { IfOk result (λ r. HasShape head args.new) }
     ensures shorter { IfOk result (λ r. length r.now < length text.now) }
     ensures only { IsErrOf result Fault.Malformed → SpellsNoArguments head (words text.now) }
 {
     let (first, mut end) = read_argument(alloc, kind_at(head, 0), text)?;
-    args.push(first)?;
+    args.push(first);
     while let Some(more) = after(b',', end) {
         if args.is_full() {
             return Err(Fault::Malformed);
         }
         let (argument, rest) = read_argument(alloc, kind_at(head, args.len()), more)?;
-        args.push(argument)?;
+        args.push(argument);
         end = rest;
     }
     match after(b')', end) {
@@ -267,10 +292,10 @@ fn gather<'a>(
     }
 }
 
-/// The call of a head with the arguments that it takes.
-fn call<'a>(alloc: Global, head: Head, args: Gathered<'a>) -> Result<Expr<'a>, NoMemory>
+/// The call of a head that keeps no list of its arguments, with those that it takes.
+fn few_call<'a>(alloc: Global, head: Head, args: Gathered<'a>) -> Result<Expr<'a>, NoMemory>
     requires kinds { OfKinds (signature head).first (signature head).further (gathered args) }
-    requires shape { HasShape head args }
+    requires few { is_list head ≡ false }
     ensures { IfOk result (λ e. tree_of e ≡ Call head (held (gathered args.entry))) }
 {
     match head {
@@ -279,7 +304,18 @@ fn call<'a>(alloc: Global, head: Head, args: Gathered<'a>) -> Result<Expr<'a>, N
             Ok(Expr::Const(level, n))
         }
         Head::One(word) => Ok(Expr::One(word, Box::new(alloc, args.expr())?)),
-        Head::Fold(word) => Ok(Expr::Fold(word, args.exprs())),
-        Head::Ite => Ok(Expr::Ite(args.exprs())),
+        Head::Fold(_) | Head::Ite => unreachable!(),
+    }
+}
+
+/// The call of a head that keeps a list of its arguments.
+fn list_call<'a>(head: Head, es: Exprs<'a>) -> Expr<'a>
+    requires { is_list head ≡ true }
+    ensures { tree_of result ≡ Call head (held (as_arguments es.entry.items.items)) }
+{
+    match head {
+        Head::Fold(word) => Expr::Fold(word, es),
+        Head::Ite => Expr::Ite(es),
+        Head::Const | Head::One(_) => unreachable!(),
     }
 }

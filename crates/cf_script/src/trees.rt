@@ -1,6 +1,6 @@
 //! Expressions and statements as trees that borrow the line that they were read from.
 
-ghost use Rattle.std.specs.Prelude.{◌≡◌, [], ◌∷◌, ◌++◌, OnOk, OnErr, map};
+ghost use Rattle.std.specs.Prelude.{◌≡◌, [], ◌∷◌, ◌++◌, IfOk, OnOk, OnErr, map};
 
 use cf_ops::{NoMemory, Word1, Word2};
 use std::alloc::Global;
@@ -50,6 +50,15 @@ impl<'a> Exprs<'a> {
         Exprs {
             items: Vec::new(alloc),
         }
+    }
+
+    /// The empty list, with room for some expressions.
+    pub fn with_capacity(alloc: Global, capacity: usize) -> Result<Exprs<'a>, NoMemory>
+        ensures { IfOk result (λ es. es.items.items ≡ []) }
+    {
+        Ok(Exprs {
+            items: Vec::with_capacity(alloc, capacity)?,
+        })
     }
 
     /// Appends an expression. Without memory the list is as before.

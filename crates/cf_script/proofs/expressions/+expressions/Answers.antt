@@ -1,31 +1,29 @@
-use Rattle.std.proofs.Common.{◌≡◌, suc, ◌++◌, ◌∷◌, [], length, refl, sym, ap, subst, ◌∙◌, arith, rules, Err}
+use Rattle.std.proofs.Common.{◌≡◌, ℕ, suc, ◌++◌, ◌∷◌, [], length, refl, sym, ap, subst, ◌∙◌, arith, rules, Err}
 use Rattle.cf_reference.specs.declared.grammar.Kind.{Kind}
 use Rattle.cf_reference.specs.declared.grammar.Kind.TheVariants.{Expression}
 use Rattle.cf_reference.specs.Heads.{kind_at, takes}
 use Rattle.cf_reference.specs.Words.{words}
 use Rattle.cf_reference.specs.Grammar.{lead}
 use Rattle.cf_script.specs.declared.expressions.Fault.TheVariants.{Malformed}
-use Rattle.cf_script.specs.Arguments.{IsOf, gathered, IsArgument, SpellsNoArgument}
-use Rattle.cf_script.proofs.CallFacts.{none-empty, is-call, none-inside, none-called, is-leaf, none-leaf, argument-read, argument-word, none-argument, of-kinds, has-room, too-many, handed-on}
+use Rattle.cf_script.specs.Arguments.{gathered, as_arguments, IsArgument, SpellsNoArgument}
+use Rattle.cf_script.specs.declared.arguments.Argument.TheVariants as argument
+use Rattle.cf_script.proofs.CallFacts.{none-empty, is-call, none-inside, none-called, is-leaf, none-leaf, argument-read, argument-word, none-argument, of-kinds, too-many, handed-on, if-ok, listed-read, listed-none, pushed-listed, as_many}
 use Rattle.cf_script.proofs.ListFacts.{front-none, ends-none, front-more, ends-more, front-whole, no-next, no-end, other-number, pushed-length}
 use Rattle.cf_script.proofs.expressions.+expressions.Goals as goal
 
 pub read_expr-returns-in_default-clause-only : goal.read_expr-returns-in_default-clause-only
 read_expr-returns-in_default-clause-only t c = λ _. none-empty (words c.args.text.now) c.in_default.ensures.none
 
-pub read_expr-returns-in_err-args-in-Some-head_of-clause-only : goal.read_expr-returns-in_err-args-in-Some-head_of-clause-only
-read_expr-returns-in_err-args-in-Some-head_of-clause-only t c = λ e.
+pub read_expr-returns-in-Some-head_of-clause-found : goal.read_expr-returns-in-Some-head_of-clause-found
+read_expr-returns-in-Some-head_of-clause-found t c =
+    if-ok c.read_call.result _ _ c.read_call.ensures.found (λ r read.
+    is-call c.in-Some-head_of.head r.0 c.in-Some.word.now (words c.args.text.now) (words c.in-Some.rest.now) (words c.in-Some-after.inside.now) (words r.1.now)
+    c.in-Some.ensures.found c.in-Some-after.ensures.found c.in-Some-head_of.ensures read)
+
+pub read_expr-returns-in-Some-head_of-clause-only : goal.read_expr-returns-in-Some-head_of-clause-only
+read_expr-returns-in-Some-head_of-clause-only t c = λ e.
     none-inside c.in-Some-head_of.head c.in-Some.word.now (words c.args.text.now) (words c.in-Some.rest.now) (words c.in-Some-after.inside.now)
-    c.in-Some.ensures.found c.in-Some-after.ensures.found c.in-Some-head_of.ensures
-    (c.in_err-args-in-Some-head_of.ensures.only (ap Err (sym (handed-on _ Malformed c.from_residual.result c.from_residual.ensures.1 e))))
-
-pub read_expr-call-requires-clause-kinds : goal.read_expr-call-requires-clause-kinds
-read_expr-call-requires-clause-kinds t c = of-kinds c.in-Some-head_of.head _ c.in_ok-args-in-Some-head_of.ensures.found.number c.in_ok-args-in-Some-head_of.ensures.found.kinds
-
-pub read_expr-returns-in_ok-call-in-Some-head_of-clause-found : goal.read_expr-returns-in_ok-call-in-Some-head_of-clause-found
-read_expr-returns-in_ok-call-in-Some-head_of-clause-found t c =
-    is-call c.in-Some-head_of.head _ c.in_ok-call-in-Some-head_of.field-0 c.in-Some.word.now (words c.args.text.now) (words c.in-Some.rest.now) (words c.in-Some-after.inside.now) _
-    c.in-Some.ensures.found c.in-Some-after.ensures.found c.in-Some-head_of.ensures c.in_ok-args-in-Some-head_of.ensures.found c.in_ok-call-in-Some-head_of.ensures
+    c.in-Some.ensures.found c.in-Some-after.ensures.found c.in-Some-head_of.ensures (c.read_call.ensures.only e)
 
 pub read_expr-returns-in-None-head_of-clause-only : goal.read_expr-returns-in-None-head_of-clause-only
 read_expr-returns-in-None-head_of-clause-only t c = λ _.
@@ -63,26 +61,19 @@ pub gather-loop-more-init : goal.gather-loop-more-init
 gather-loop-more-init t c =
     let all = words c.args.text.now in
     let end = words c.in_ok-first.end.now in
-    let is = c.in_ok-push.ensures.pushed ∙ ap (λ xs. xs ++ c.in_ok-first.first ∷ []) c.requires.none in
+    let is = c.push.ensures ∙ ap (λ xs. xs ++ c.in_ok-first.first ∷ []) c.requires.none in
     let read = subst (λ (k : Kind). IsArgument k c.in_ok-first.first all end) c.kind_at.ensures c.in_ok-first.ensures.found in
     record {
       shorter = c.in_ok-first.ensures.shorter;
       front = front-more c.args.head [] _ c.in_ok-first.first all all all end is (front-none c.args.head [] all refl) refl read;
-      shape = c.in_ok-push.ensures.shape c.args.head c.requires.shape;
       ends = (0, ap length is, ends-more c.args.head 0 c.in_ok-first.first all all all end (ends-none c.args.head all) refl read);
     }
 
 pub gather-returns-then-is_full-clause-only : goal.gather-returns-then-is_full-clause-only
 gather-returns-then-is_full-clause-only t c = λ e.
     let kept = c.loop-more.invariant in
-    too-many c.args.head c.loop-more.args kept.ends.0 (words c.args.text.now) (words c.loop-more.end.now) (words c.in-Some.more.now) kept.shape
+    too-many c.args.head c.loop-more.args kept.ends.0 (words c.args.text.now) (words c.loop-more.end.now) (words c.in-Some.more.now) c.requires.few
     (sym c.is_full.ensures ∙ c.if-is_full.true) kept.ends.1 kept.ends.2 c.in-Some.ensures.found
-
-pub gather-push-requires-in-Some : goal.gather-push-requires-in-Some
-gather-push-requires-in-Some t c =
-    let kind = c.kind_at-in-Some.ensures ∙ ap (kind_at c.args.head) c.len.ensures in
-    has-room c.args.head c.loop-more.args c.in_ok-argument.argument (length (gathered c.loop-more.args)) c.loop-more.invariant.shape
-    (sym c.is_full.ensures ∙ c.if-is_full.false) (subst (λ (k : Kind). IsOf k c.in_ok-argument.argument) kind c.in_ok-argument.ensures.found.kinds)
 
 pub gather-returns-in_err-argument-clause-only : goal.gather-returns-in_err-argument-clause-only
 gather-returns-in_err-argument-clause-only t c = λ e.
@@ -103,12 +94,11 @@ gather-loop-more-preserved t c =
     let read = subst (λ (k : Kind). IsArgument k c.in_ok-argument.argument after rest) kind c.in_ok-argument.ensures.found in
     record {
       shorter = omega (arith, kept.shorter, c.in_ok-argument.ensures.shorter, c.in-Some.ensures.shorter);
-      front = front-more c.args.head (gathered c.loop-more.args) _ c.in_ok-argument.argument all end after rest c.in_ok-push-2.ensures.pushed kept.front
+      front = front-more c.args.head (gathered c.loop-more.args) _ c.in_ok-argument.argument all end after rest c.push-in-Some.ensures kept.front
           (subst (λ n. end ≡ lead n ++ after) (sym kept.ends.1) c.in-Some.ensures.found) read;
-      shape = c.in_ok-push-2.ensures.shape c.args.head kept.shape;
       ends = (
         suc kept.ends.0,
-        pushed-length kept.ends.0 (gathered c.loop-more.args) _ c.in_ok-argument.argument c.in_ok-push-2.ensures.pushed kept.ends.1,
+        pushed-length kept.ends.0 (gathered c.loop-more.args) _ c.in_ok-argument.argument c.push-in-Some.ensures kept.ends.1,
         ends-more c.args.head (suc kept.ends.0) c.in_ok-argument.argument all end after rest kept.ends.2 c.in-Some.ensures.found
             (subst (λ n. IsArgument (kind_at c.args.head n) c.in_ok-argument.argument after rest) kept.ends.1 read),
       );
@@ -127,4 +117,72 @@ gather-returns-else-takes-clause-only t c = λ e.
 
 pub gather-returns-in-None-clause-only : goal.gather-returns-in-None-clause-only
 gather-returns-in-None-clause-only t c = λ e.
+    no-end c.args.head c.loop-more.invariant.ends.0 (words c.args.text.now) (words c.loop-more.end.now) c.loop-more.invariant.ends.2 c.in_default.ensures.none c.in-None.ensures.none
+
+pub read_list-returns-in_err-first-clause-only : goal.read_list-returns-in_err-first-clause-only
+read_list-returns-in_err-first-clause-only t c = λ e.
+    no-next c.args.head 0 (words c.args.text.now) (words c.args.text.now) (words c.args.text.now) (ends-none c.args.head (words c.args.text.now)) refl
+    (listed-none c.args.head 0 (words c.args.text.now) c.requires
+    (c.in_err-first.ensures.only (ap Err (sym (handed-on _ Malformed c.from_residual-in_err-first.result c.from_residual-in_err-first.ensures.1 e)))))
+
+pub read_list-loop-more-init : goal.read_list-loop-more-init
+read_list-loop-more-init t c =
+    let all = words c.args.text.now in
+    let end = words c.in_ok-first.end.now in
+    let is = pushed-listed _ _ c.in_ok-first.first c.in_ok-push.ensures.ok ∙ ap (λ xs. as_arguments xs ++ argument.Expr c.in_ok-first.first ∷ []) c.in_ok-es.ensures in
+    let read = listed-read c.args.head 0 c.in_ok-first.first all end c.requires c.in_ok-first.ensures.found in
+    record {
+      shorter = c.in_ok-first.ensures.shorter;
+      front = front-more c.args.head [] _ _ all all all end is (front-none c.args.head [] all refl) refl read;
+      ends = (0, ap length is, ends-more c.args.head 0 _ all all all end (ends-none c.args.head all) refl read);
+    }
+
+pub read_list-returns-in_err-e-clause-only : goal.read_list-returns-in_err-e-clause-only
+read_list-returns-in_err-e-clause-only t c = λ e.
+    let kept = c.loop-more.invariant in
+    no-next c.args.head (suc kept.ends.0) (words c.args.text.now) (words c.loop-more.end.now) (words c.in-Some.more.now) kept.ends.2 c.in-Some.ensures.found
+    (listed-none c.args.head (suc kept.ends.0) (words c.in-Some.more.now) c.requires
+    (c.in_err-e.ensures.only (ap Err (sym (handed-on _ Malformed c.from_residual-in_err-e.result c.from_residual-in_err-e.ensures.1 e)))))
+
+pub read_list-loop-more-preserved : goal.read_list-loop-more-preserved
+read_list-loop-more-preserved t c =
+    let kept = c.loop-more.invariant in
+    let first = as_arguments c.loop-more.es.items.items in
+    let all = words c.args.text.now in
+    let end = words c.loop-more.end.now in
+    let after = words c.in-Some.more.now in
+    let rest = words c.in_ok-e.rest.now in
+    let is = pushed-listed _ _ c.in_ok-e.e c.in_ok-push-2.ensures.ok in
+    record {
+      shorter = omega (arith, kept.shorter, c.in_ok-e.ensures.shorter, c.in-Some.ensures.shorter);
+      front = front-more c.args.head first _ _ all end after rest is kept.front
+          (subst (λ n. end ≡ lead n ++ after) (sym kept.ends.1) c.in-Some.ensures.found)
+          (listed-read c.args.head (length first) c.in_ok-e.e after rest c.requires c.in_ok-e.ensures.found);
+      ends = (
+        suc kept.ends.0,
+        pushed-length kept.ends.0 first _ _ is kept.ends.1,
+        ends-more c.args.head (suc kept.ends.0) _ all end after rest kept.ends.2 c.in-Some.ensures.found
+            (listed-read c.args.head (suc kept.ends.0) c.in_ok-e.e after rest c.requires c.in_ok-e.ensures.found),
+      );
+    }
+
+pub read_list-returns-then-takes-clause-found : goal.read_list-returns-then-takes-clause-found
+read_list-returns-then-takes-clause-found t c =
+    let es = c.loop-more.es.items.items in
+    record {
+      arguments = as_arguments es;
+      read = front-whole c.args.head c.loop-more.invariant.ends.0 (as_arguments es) (words c.args.text.now) (words c.loop-more.end.now) (words c.in-Some-after.rest.now)
+          c.loop-more.invariant.ends.1 c.loop-more.invariant.front c.in-Some-after.ensures.found
+          (ap (takes c.args.head) (as_many es ∙ sym (ap length c.items.ensures)) ∙ sym c.takes.ensures ∙ c.if-takes.true);
+      same = c.list_call.ensures;
+    }
+
+pub read_list-returns-in-Some-after-clause-only : goal.read_list-returns-in-Some-after-clause-only
+read_list-returns-in-Some-after-clause-only t c = λ e.
+    let many = as_many c.loop-more.es.items.items in
+    other-number c.args.head c.loop-more.invariant.ends.0 (words c.args.text.now) (words c.loop-more.end.now) c.loop-more.invariant.ends.2 c.in_default.ensures.none
+    (ap (takes c.args.head) (sym c.loop-more.invariant.ends.1 ∙ many ∙ sym (ap length c.items.ensures)) ∙ sym c.takes.ensures ∙ c.if-takes.false)
+
+pub read_list-returns-clause-only : goal.read_list-returns-clause-only
+read_list-returns-clause-only t c = λ e.
     no-end c.args.head c.loop-more.invariant.ends.0 (words c.args.text.now) (words c.loop-more.end.now) c.loop-more.invariant.ends.2 c.in_default.ensures.none c.in-None.ensures.none

@@ -1,14 +1,20 @@
 use Rattle.std.proofs.Common.{ℕ, suc, ◌≡◌, ◌+◌, ◌*◌, ◌<◌, length}
 use Rattle.cf_reference.specs.Words.{words}
-use Rattle.cf_script.specs.Arguments.{gathered, HasShape}
+use Rattle.cf_script.specs.Arguments.{gathered, as_arguments}
 use Rattle.cf_script.proofs.ListFacts.{AreFront, HasEnds}
 use Rattle.cf_script.proofs.expressions.+expressions.Given as goal
 
 abbrev pub decreases-read_expr : goal.decreases-read_expr
 decreases-read_expr l = 3 * length l.text.now
 
-abbrev pub decreases-read_arguments : goal.decreases-read_arguments
-decreases-read_arguments l = 3 * length l.text.now + 3
+abbrev pub decreases-read_call : goal.decreases-read_call
+decreases-read_call l = 3 * length l.text.now + 4
+
+abbrev pub decreases-read_few : goal.decreases-read_few
+decreases-read_few l = 3 * length l.text.now + 3
+
+abbrev pub decreases-read_list : goal.decreases-read_list
+decreases-read_list l = 3 * length l.text.now + 2
 
 abbrev pub decreases-gather : goal.decreases-gather
 decreases-gather l = 3 * length l.text.now + 2
@@ -16,11 +22,20 @@ decreases-gather l = 3 * length l.text.now + 2
 abbrev pub decreases-read_argument : goal.decreases-read_argument
 decreases-read_argument l = 3 * length l.text.now + 1
 
+abbrev pub invariant-read_list-loop-more : goal.invariant-read_list-loop-more
+invariant-read_list-loop-more l = record {
+  shorter : length l.end < length l.text;
+  front : AreFront l.head (as_arguments l.es.items.items) (words l.text) (words l.end);
+  ends : (n : ℕ) × (length (as_arguments l.es.items.items) ≡ suc n) × HasEnds l.head (suc n) (words l.text) (words l.end);
+}
+
+abbrev pub decreases-read_list-loop-more : goal.decreases-read_list-loop-more
+decreases-read_list-loop-more l = length l.end
+
 abbrev pub invariant-gather-loop-more : goal.invariant-gather-loop-more
 invariant-gather-loop-more l = record {
   shorter : length l.end < length l.text;
   front : AreFront l.head (gathered l.args) (words l.text) (words l.end);
-  shape : HasShape l.head l.args;
   ends : (n : ℕ) × (length (gathered l.args) ≡ suc n) × HasEnds l.head (suc n) (words l.text) (words l.end);
 }
 

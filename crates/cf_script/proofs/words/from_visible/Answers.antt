@@ -1,7 +1,7 @@
 use Rattle.std.proofs.Common.{sym}
 use Rattle.std.proofs.lemmas.List.{take_rest}
 use Rattle.cf_script.proofs.WordFacts.{visible-from, visible-none}
-use Rattle.cf_script.proofs.words.skip_blanks.Goals as goal
+use Rattle.cf_script.proofs.words.from_visible.Goals as goal
 
 pub returns-in-Some-clause-same : goal.returns-in-Some-clause-same
 returns-in-Some-clause-same c = rw take_rest (visible-from c.args.text.now c.in-Some.start (sym c.in-Some.ensures.place)).same
