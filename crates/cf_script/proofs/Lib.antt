@@ -5,4 +5,5 @@ pub mod ReadingFacts
 pub mod ListFacts
 pub mod CallFacts
 pub mod WideFacts
+pub mod WindowFacts
 pub mod StatementFacts

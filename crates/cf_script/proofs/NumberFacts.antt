@@ -1,7 +1,7 @@
 -- Numbers that digits spell, and which of them fit.
 use Rattle.std.proofs.Common.{ℕ, suc, zero, ℤ, pos, neg_ℤ, ◌*ℤ◌, ◌-ℤ◌, ◌≤ℤ◌, ◌≡◌, ◌<◌, ◌≤◌, ◌+◌, ◌*◌, ◌-◌, ◌^◌, Bool, true, false, not, cond, ◌&&◌, nat_lt, nat_le, ◌==◌, List, [], ◌∷◌, take, get_or, length, Option, Some, None, refl, ap, sym, ◌∙◌, arith}
 use Rattle.std.specs.List.{fold}
-use Rattle.std.proofs.lemmas.Bool.{leb-true, ltb-true, lt-ltb, le-ltb, eqb-true}
+use Rattle.std.proofs.lemmas.Bool.{leb-true, le-leb, ltb-true, lt-ltb, le-ltb, eqb-true}
 use Rattle.std.proofs.lemmas.Int.{ints, to_z-of_z}
 use mir.Syntax.{w128}
 use mir.Val.{to_z, of_z}
@@ -189,3 +189,42 @@ opposite-fits n h = at (fits (neg_ℤ (pos n))) refl
     at : (t : Bool) → fits (neg_ℤ (pos n)) ≡ t → t ≡ true
     at true is = refl
     at false is = let e : false ≡ true = sym (positive-wide n is) ∙ h in cc
+
+exact_fit : (n : ℕ) → fits (pos n) ≡ true → to_z w128 (of_z w128 (pos n)) ≡ pos n
+exact_fit n fit = to_z-of_z w128 (pos n) (fitting-some (pos n) (pos n) (ap (λ t. cond t (Some (pos n)) None) fit)).1
+
+-- up to 17 digits spell a number below the seventeenth power of ten
+pub few-digits : (word : List ℕ) (i : ℕ) → i ≤ 17 → list_all is_ascii_digit (take i word) ≡ true → decimal_value (take i word) < with_zeros 1 17
+few-digits word i few all =
+    let below = digits_below (take i word) 0 all in
+    let most = zeros-more 1 1 (length (take i word)) 17 (omega arith) (omega (arith, few, length_taken word i)) in
+    omega (arith, below, most)
+  where
+    length_taken : (l : List ℕ) (k : ℕ) → length (take k l) ≤ k
+    length_taken [] zero = omega arith
+    length_taken [] (suc k) = omega arith
+    length_taken (b ∷ l) zero = omega arith
+    length_taken (b ∷ l) (suc k) = omega (arith, length_taken l k)
+
+-- the number of a word of few digits
+pub natural-few : (word : List ℕ) (n : ℕ) (v : ℤ) → 0 < length word → length word ≤ 18 → list_all is_ascii_digit word ≡ true → n ≡ decimal_value word → v ≡ pos n
+    → Some (Some (to_z w128 (of_z w128 v))) ≡ option_map fitting (natural word)
+natural-few word n v some short all is read =
+    let d = decimal_value word in
+    let fit : fits (pos d) ≡ true = digits-fit word all (omega (arith, short)) in
+    let fitted : fitting (pos d) ≡ Some (pos d) = ap (λ t. cond t (Some (pos d)) None) fit in
+    let same : to_z w128 (of_z w128 v) ≡ pos d = ap (λ z. to_z w128 (of_z w128 z)) (read ∙ ap pos is) ∙ exact_fit d fit in
+    let both : (nat_le 1 (length word) && list_all is_ascii_digit word) ≡ true = rw (le-leb 1 (length word) some, all) refl in
+    ap (λ z. Some (Some z)) same ∙ sym (ap (option_map fitting) (natural-digits word both) ∙ ap Some fitted)
+
+-- and where there is none
+pub natural-not : (word : List ℕ) → list_all is_ascii_digit word ≡ false → None ≡ option_map fitting (natural word)
+natural-not word other = sym (natural-other word (at (nat_le 1 (length word))))
+  where
+    at : (t : Bool) → (t && list_all is_ascii_digit word) ≡ false
+    at true = other
+    at false = refl
+
+pub natural-empty : (word : List ℕ) → length word ≡ 0 → None ≡ option_map fitting (natural word)
+natural-empty [] e = sym (natural-other [] refl)
+natural-empty (b ∷ word) e = absurd (omega (arith, e))

@@ -13,6 +13,7 @@ use Rattle.cf_reference.specs.Words.{number, place, natural, is_name}
 use Rattle.cf_reference.specs.Trees.{Num, At, Named, Variable, Position, Number, atom}
 use Rattle.cf_reference.specs.Trees as tree
 use Rattle.cf_reference.specs.Grammar.{leaf, leaf_of_number, leaf_of_place, variable_of, atom_of}
+use Rattle.cf_reference.proofs.KindFacts.{number-place}
 use Rattle.cf_script.specs.declared.trees.Expr.{Expr}
 use Rattle.cf_script.specs.declared.trees.Expr as expr
 use Rattle.cf_script.specs.declared.trees.Var.TheVariants as var
@@ -61,11 +62,19 @@ is-number word value v read gives =
     let h = has-number (number word) value read in
     record { tree = Num h.n; spells = leaf-number word h.n h.is; shows = λ fit. ap Num (exact h.n value v h.value gives fit) }
 
-pub is-place : (word : List ℕ) (value : Option ℤ) (v : ℤ) → None ≡ option_map fitting (number word) → Some value ≡ option_map fitting (place word) → v ≡ unwrap_or value (pos 0)
+not_both : (word : List ℕ) (n : ℤ) (o : Option ℤ) → place word ≡ Some n → number word ≡ o → o ≡ None
+not_both word n None p e = refl
+not_both word n (Some m) p e = let d : None ≡ Some n = sym (number-place word m e) ∙ p in cc
+
+pub is-place : (word : List ℕ) (value : Option ℤ) (v : ℤ) → Some value ≡ option_map fitting (place word) → v ≡ unwrap_or value (pos 0)
     → IsLeaf (expr.At (to_z w128 (of_z w128 v))) word
-is-place word value v none read gives =
+is-place word value v read gives =
     let h = has-number (place word) value read in
-    record { tree = At h.n; spells = leaf-place word h.n (has-none (number word) none) h.is; shows = λ fit. ap At (exact h.n value v h.value gives fit) }
+    record {
+      tree = At h.n;
+      spells = leaf-place word h.n (not_both word h.n (number word) h.is refl) h.is;
+      shows = λ fit. ap At (exact h.n value v h.value gives fit);
+    }
 
 pub leaf-named : (word : List ℕ) → None ≡ option_map fitting (number word) → None ≡ option_map fitting (place word) → is_name word ≡ true → leaf word ≡ Some (Named word)
 leaf-named word none other name = leaf-name word (has-none (number word) none) (has-none (place word) other) ∙ ap (λ t. cond t (Some (Named word)) None) name

@@ -1,6 +1,7 @@
 -- How a text's words stand to the first byte of each kind.
 use Rattle.std.proofs.Common.{ℕ, zero, suc, ◌≡◌, ◌<◌, ◌+◌, ◌==◌, ◌||◌, Bool, true, false, not, cond, List, [], ◌∷◌, take, drop, get_or, length, Some, None, refl, ap, sym, ◌∙◌, arith}
-use Rattle.std.specs.Prelude.{Option, IfNone, position, slice_index}
+use Rattle.std.specs.Prelude.{Option, IfNone, IfSome, position, slice_index}
+use Rattle.std.proofs.lemmas.List.{get_or-take, length-take}
 use Rattle.memchr.specs.Find.{IsFirstByte, is_byte}
 use Rattle.std.specs.List.{position_from}
 use Rattle.std.proofs.lemmas.Iterator.Adapters.{position_from-zero}
@@ -85,11 +86,11 @@ unfolding words
 word-sign [] some visible sign = absurd (omega arith)
 word-sign (b ∷ rest) some visible sign = rw (visible, sign) refl
 
-by_run : (b : ℕ) (rest : List ℕ) → is_blank b ≡ false → is_sign b ≡ false → words (b ∷ rest) ≡ cond (begins_run rest) (lengthen b (words rest)) ((b ∷ []) ∷ words rest)
+pub by_run : (b : ℕ) (rest : List ℕ) → is_blank b ≡ false → is_sign b ≡ false → words (b ∷ rest) ≡ cond (begins_run rest) (lengthen b (words rest)) ((b ∷ []) ∷ words rest)
 unfolding words
 by_run b rest visible sign = rw (visible, sign) refl
 
-run_parts : (b : ℕ) → runs b ≡ true → (is_blank b ≡ false) × (is_sign b ≡ false)
+pub run_parts : (b : ℕ) → runs b ≡ true → (is_blank b ≡ false) × (is_sign b ≡ false)
 run_parts b is = at (is_blank b) (is_sign b) is
   where
     at : (x y : Bool) → not (x || y) ≡ true → (x ≡ false) × (y ≡ false)
@@ -234,3 +235,16 @@ pub none-behind : {A : Type 0} (o : Option A) (text : List ℕ) (sign : ℕ) →
     → IfNone o ((rest : List ℕ) → text ≡ sign ∷ rest → ⊥) → IfNone o ((more : List (List ℕ)) → words text ≡ (sign ∷ []) ∷ more → ⊥)
 none-behind (Some x) text sign some visible none = tt
 none-behind None text sign some visible none = λ more h. let first = sign-first text sign more some visible h in none first.0 first.1
+
+-- a place in the front of a text
+taken_within : (n k : ℕ) (text : List ℕ) → k < length (take n text) → k < n
+taken_within n k text h = omega (arith, h, length-take n text)
+
+pub early-within : (o : Option ℕ) (n : ℕ) (text : List ℕ) → IfSome o (λ k. k < length (take n text)) → IfSome o (λ k. k < n)
+early-within None n text h = tt
+early-within (Some k) n text h = taken_within n k text h
+
+pub early-ends : (o : Option ℕ) (n : ℕ) (text : List ℕ) → IfSome o (λ k. k < length (take n text)) → IfSome o (λ k. runs (get_or (take n text) k 0) ≡ false)
+    → IfSome o (λ k. runs (get_or text k 0) ≡ false)
+early-ends None n text within ends = tt
+early-ends (Some k) n text within ends = sym (ap runs (get_or-take n text k 0 (taken_within n k text within))) ∙ ends

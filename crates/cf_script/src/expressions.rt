@@ -65,10 +65,10 @@ fn leaf(word: &[u8]) -> Option<Expr<'_>>
     ensures found { IfSome result (λ e. IsLeaf e word.now) }
     ensures none { IfNone result (leaf_of word.now ≡ None) }
 {
-    if let Some(value) = number(word) {
-        Some(Expr::Num(value.unwrap_or(0)))
-    } else if let Some(position) = place(word) {
+    if let Some(position) = place(word) {
         Some(Expr::At(position.unwrap_or(0)))
+    } else if let Some(value) = number(word) {
+        Some(Expr::Num(value.unwrap_or(0)))
     } else if is_name(word) {
         Some(Expr::Named(word))
     } else {
@@ -81,36 +81,22 @@ fn leaf(word: &[u8]) -> Option<Expr<'_>>
 fn head_of(word: &[u8]) -> Option<Head>
     ensures { result ≡ head_of_word word.now }
 {
-    if word == b"const".as_slice() {
-        Some(Head::Const)
-    } else if word == b"not".as_slice() {
-        Some(Head::One(Word1::Not))
-    } else if word == b"neg".as_slice() {
-        Some(Head::One(Word1::Neg))
-    } else if word == b"and".as_slice() {
-        Some(Head::Fold(Word2::And))
-    } else if word == b"or".as_slice() {
-        Some(Head::Fold(Word2::Or))
-    } else if word == b"xor".as_slice() {
-        Some(Head::Fold(Word2::Xor))
-    } else if word == b"plus".as_slice() {
-        Some(Head::Fold(Word2::Plus))
-    } else if word == b"minus".as_slice() {
-        Some(Head::Fold(Word2::Minus))
-    } else if word == b"times".as_slice() {
-        Some(Head::Fold(Word2::Times))
-    } else if word == b"min".as_slice() {
-        Some(Head::Fold(Word2::Min))
-    } else if word == b"max".as_slice() {
-        Some(Head::Fold(Word2::Max))
-    } else if word == b"eq".as_slice() {
-        Some(Head::Fold(Word2::Eq))
-    } else if word == b"lt".as_slice() {
-        Some(Head::Fold(Word2::Lt))
-    } else if word == b"ite".as_slice() {
-        Some(Head::Ite)
-    } else {
-        None
+    match word {
+        b"const" => Some(Head::Const),
+        b"not" => Some(Head::One(Word1::Not)),
+        b"neg" => Some(Head::One(Word1::Neg)),
+        b"and" => Some(Head::Fold(Word2::And)),
+        b"or" => Some(Head::Fold(Word2::Or)),
+        b"xor" => Some(Head::Fold(Word2::Xor)),
+        b"plus" => Some(Head::Fold(Word2::Plus)),
+        b"minus" => Some(Head::Fold(Word2::Minus)),
+        b"times" => Some(Head::Fold(Word2::Times)),
+        b"min" => Some(Head::Fold(Word2::Min)),
+        b"max" => Some(Head::Fold(Word2::Max)),
+        b"eq" => Some(Head::Fold(Word2::Eq)),
+        b"lt" => Some(Head::Fold(Word2::Lt)),
+        b"ite" => Some(Head::Ite),
+        _ => None,
     }
 }
 

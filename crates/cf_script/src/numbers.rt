@@ -1,6 +1,6 @@
 //! The numbers of a line.
 
-ghost use Rattle.std.specs.Prelude.{◌≡◌, ◌-◌, ◌≤◌, ◌&&◌, nat_le, length, List, ◌∷◌, ℕ, IfSome, IfNone, pos, neg_ℤ, ◌*ℤ◌, ◌-ℤ◌, ◌≤ℤ◌, IsTrue};
+ghost use Rattle.std.specs.Prelude.{◌≡◌, ◌-◌, ◌≤◌, ◌&&◌, nat_le, length, List, ◌∷◌, ℕ, IfSome, IfNone, true, false, pos, neg_ℤ, ◌*ℤ◌, ◌-ℤ◌, ◌≤ℤ◌, IsTrue};
 ghost use Rattle.std.specs.Char.{is_ascii_digit};
 ghost use Rattle.std.specs.List.{list_all};
 ghost use Rattle.std.specs.Option.{option_map};
@@ -49,8 +49,25 @@ fn are_digits(word: &[u8]) -> bool
     word.iter().all(|b| b.is_ascii_digit())
 }
 
-/// The number that a word of digits spells, and none inside where it doesn't fit.
-pub(crate) fn natural(word: &[u8]) -> Option<Option<i128>>
+/// The number that a word of at most 18 digits spells. It is far from the bounds.
+fn short_natural(word: &[u8]) -> Option<u64>
+    requires { length word.now ≤ 18 }
+    ensures digits { IfSome result (λ n. list_all is_ascii_digit word.now ≡ true) }
+    ensures value { IfSome result (λ n. n ≡ decimal_value word.now) }
+    ensures none { IfNone result (list_all is_ascii_digit word.now ≡ false) }
+{
+    let mut value = 0u64;
+    for digit in word {
+        if !digit.is_ascii_digit() {
+            return None;
+        }
+        value = 10 * value + u64::from(*digit - b'0');
+    }
+    Some(value)
+}
+
+/// The number that a word of digits spells, however many there are.
+fn long_natural(word: &[u8]) -> Option<Option<i128>>
     ensures { result ≡ option_map fitting (natural_of word.now) }
 {
     if !is_natural(word) {
@@ -59,6 +76,22 @@ pub(crate) fn natural(word: &[u8]) -> Option<Option<i128>>
     match negative(word) {
         Some(value) => Some(opposite(value)),
         None => Some(None),
+    }
+}
+
+/// The number that a word of digits spells, and none inside where it doesn't fit.
+pub(crate) fn natural(word: &[u8]) -> Option<Option<i128>>
+    ensures { result ≡ option_map fitting (natural_of word.now) }
+{
+    if word.is_empty() {
+        return None;
+    }
+    if word.len() > 18 {
+        return long_natural(word);
+    }
+    match short_natural(word) {
+        Some(value) => Some(Some(i128::from(value))),
+        None => None,
     }
 }
 

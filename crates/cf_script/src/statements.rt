@@ -1,6 +1,6 @@
 //! The statements of a line.
 
-ghost use Rattle.std.specs.Prelude.{◌≡◌, ℕ, List, [], ◌∷◌, IfOk, IfSome, IfNone, IsErrOf, IsTrue, ◌↔◌};
+ghost use Rattle.std.specs.Prelude.{◌≡◌, ◌<◌, ℕ, List, [], ◌∷◌, length, IfOk, IfSome, IfNone, IsErrOf, IsTrue, ◌↔◌};
 ghost use Rattle.cf_reference.specs.declared.grammar.Keyword.{Keyword};
 ghost use Rattle.cf_reference.specs.Words.{words, words_of_line};
 ghost use Rattle.cf_reference.specs.Trees.{Formed};
@@ -13,7 +13,7 @@ use crate::expressions::{Fault, read_expr};
 use crate::faults::ScriptFault;
 use crate::numbers::{natural, number, place};
 use crate::trees::{NameSlices, Statement};
-use crate::words::{after, before_comment, is_bits, is_name, next_word};
+use crate::words::{after, before_comment, early_break, is_bits, is_name, next_word};
 use cf_reference::grammar::Keyword;
 use std::alloc::Global;
 
@@ -51,13 +51,15 @@ fn is_deep(text: &[u8]) -> bool
     let mut opened = 0usize;
     let mut closed = 0usize;
     for b in text {
-        if *b == b'(' {
-            opened += 1;
-            if opened.saturating_sub(closed) > 64 {
-                return true;
+        if *b <= b')' {
+            if *b == b'(' {
+                opened += 1;
+                if opened > 64 + closed {
+                    return true;
+                }
+            } else if *b == b')' {
+                closed += 1;
             }
-        } else if *b == b')' {
-            closed += 1;
         }
     }
     false
@@ -68,26 +70,17 @@ fn is_deep(text: &[u8]) -> bool
 fn keyword_of(word: &[u8]) -> Option<Keyword>
     ensures { result ≡ keyword_of_word word.now }
 {
-    if word == b"level".as_slice() {
-        Some(Keyword::Level)
-    } else if word == b"var".as_slice() {
-        Some(Keyword::Var)
-    } else if word == b"let".as_slice() {
-        Some(Keyword::Let)
-    } else if word == b"value".as_slice() {
-        Some(Keyword::Value)
-    } else if word == b"first".as_slice() {
-        Some(Keyword::First)
-    } else if word == b"list".as_slice() {
-        Some(Keyword::List)
-    } else if word == b"equal".as_slice() {
-        Some(Keyword::Equal)
-    } else if word == b"size".as_slice() {
-        Some(Keyword::Size)
-    } else if word == b"stats".as_slice() {
-        Some(Keyword::Stats)
-    } else {
-        None
+    match word {
+        b"level" => Some(Keyword::Level),
+        b"var" => Some(Keyword::Var),
+        b"let" => Some(Keyword::Let),
+        b"value" => Some(Keyword::Value),
+        b"first" => Some(Keyword::First),
+        b"list" => Some(Keyword::List),
+        b"equal" => Some(Keyword::Equal),
+        b"size" => Some(Keyword::Size),
+        b"stats" => Some(Keyword::Stats),
+        _ => None,
     }
 }
 
@@ -229,16 +222,35 @@ fn is_wide(word: &[u8]) -> bool
     number(word) == Some(None) || place(word) == Some(None)
 }
 
+/// The text behind the last break among the first 38 bytes. The words before it are short, so their numbers fit.
+fn behind_break(text: &[u8]) -> Option<&[u8]>
+    requires { 38 < length text.now }
+    ensures narrow { IfSome result (λ r. any_wide (words text.now) ≡ any_wide (words r.now)) }
+    ensures shorter { IfSome result (λ r. length r.now < length text.now) }
+{
+    match early_break(text) {
+        Some(end) => Some(&text[end + 1..]),
+        None => None,
+    }
+}
+
 /// Whether a text has a number that doesn't fit.
 fn has_wide_number(text: &[u8]) -> bool
     ensures { result ≡ any_wide (words text.now) }
 {
     let mut rest = text;
-    while let Some((word, more)) = next_word(rest) {
-        if is_wide(word) {
-            return true;
+    while rest.len() > 38 {
+        if let Some(behind) = behind_break(rest) {
+            rest = behind;
+        } else {
+            let Some((word, more)) = next_word(rest) else {
+                return false;
+            };
+            if is_wide(word) {
+                return true;
+            }
+            rest = more;
         }
-        rest = more;
     }
     false
 }

@@ -1,6 +1,6 @@
 //! The words of a line.
 
-ghost use Rattle.std.specs.Prelude.{◌≡◌, ◌<◌, ◌≤◌, ◌==◌, false, not, true, List, [], ◌∷◌, length, take, drop, get_or, position, IfSome, IfNone, ◌||◌, ℕ};
+ghost use Rattle.std.specs.Prelude.{◌≡◌, ◌<◌, ◌≤◌, ◌==◌, false, not, true, List, [], ◌∷◌, length, take, drop, get_or, slice_index, position, IfSome, IfNone, ◌||◌, ℕ};
 ghost use Rattle.std.specs.List.{list_all};
 ghost use Rattle.cf_reference.specs.Words.{before_comment as before_comment_of, words, is_blank as is_blank_byte, is_sign as is_sign_byte, runs as runs_byte, begins_name as begins_name_byte, continues_name as continues_name_byte, is_name as is_name_word, is_bits as is_bits_word, behind_word};
 
@@ -19,7 +19,11 @@ pub(crate) fn before_comment(line: &[u8]) -> &[u8]
 fn is_blank(b: u8) -> bool
     ensures { result ≡ is_blank_byte b }
 {
-    b == b' ' || (b == b'\t' || b == b'\r')
+    if b > b' ' {
+        false
+    } else {
+        b == b' ' || (b == b'\t' || b == b'\r')
+    }
 }
 
 fn is_sign(b: u8) -> bool
@@ -88,6 +92,23 @@ fn word_length(text: &[u8]) -> usize
         Some(end) => end,
         None => text.len(),
     }
+}
+
+/// The place of the last byte that is none of a run, among the first 38.
+pub(crate) fn early_break(text: &[u8]) -> Option<usize>
+    requires { 38 < length text.now }
+    ensures within { IfSome result (λ place. place < 38) }
+    ensures ends { IfSome result (λ place. runs_byte (slice_index text.now place) ≡ false) }
+{
+    last_break(&text[..38])
+}
+
+/// The place of the last byte that is none of a run.
+fn last_break(text: &[u8]) -> Option<usize>
+    ensures within { IfSome result (λ place. place < length text.now) }
+    ensures ends { IfSome result (λ place. runs_byte (slice_index text.now place) ≡ false) }
+{
+    text.iter().rposition(|b| !runs(*b))
 }
 
 fn run_end(text: &[u8]) -> Option<usize>
