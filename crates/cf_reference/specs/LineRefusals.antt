@@ -14,17 +14,11 @@ pub data Parsed : Type 0 where
   WideNumber : Parsed
   Good : Statement → Parsed
 
--- how many `(` a text has
-abbrev pub openings : List ℕ → ℕ
-openings text = count_by (λ b. b == byte.open_sign) text
-
--- how many `)` a text has
-abbrev pub closings : List ℕ → ℕ
-closings text = count_by (λ b. b == byte.close_sign) text
-
 -- some prefix has at least 65 more `(` than `)`
 abbrev pub IsDeep : List ℕ → Type 0
-IsDeep text = (n : ℕ) × (closings (take n text) + 65 ≤ openings (take n text))
+IsDeep text =
+    (n : ℕ)
+    × (count_by (λ b. b == byte.close_sign) (take n text) + 65 ≤ count_by (λ b. b == byte.open_sign) (take n text))
 
 -- The refusals of a line in their order: its parentheses, its form, its numbers. What stands behind `#` counts for
 -- none of them.
