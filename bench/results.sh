@@ -13,8 +13,8 @@ trap 'rm -rf "$room"' EXIT
     echo "Written by \`bench/results.sh\` on $(date +%Y-%m-%d) at commit $(git rev-parse --short HEAD)."
     echo
     echo "Instructions counted by valgrind, the program's start taken off; they are steady from run to run and from machine to"
-    echo "machine. \`scripts.py\` writes the scripts and says what they do; the other workloads are those of \`cf_bench\`, script,"
-    echo "source and sink in memory, making the script included."
+    echo "machine. \`scripts.py\` writes the scripts and circuit files, and says what they do. A circuit file is read by"
+    echo "\`cf_blif_cases\`."
     echo
     echo "| Workload | Instructions |"
     echo "|---|---|"

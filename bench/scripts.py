@@ -1,6 +1,14 @@
 #!/usr/bin/env python3
-"""Writes the script of a workload of the program: `parity 128`, `conjunctions 100`, `adder 32`, `clauses 60` or `equality 32`.
+"""Writes the script, or the circuit file, of a workload and its size, as `parity 128`.
 
+values N: N lines that ask for the value of one name.
+names N: N names of 20 bytes, each asked for a hundred times.
+line N: one line of N bytes that spells nothing.
+comment N: one line of N bytes, a comment.
+fold N: one line of N bytes, a fold of as many positions as fit.
+nesting N: one line of N bytes, a fold of as many nests of 60 calls as fit.
+pairs N: the conjunctions of neighbours among N variables.
+blif N: a circuit file, a chain of N gates, each the parity of the one before it and of the input.
 parity N: the parity of N variables by one call, its size and its first assignment.
 conjunctions N: N conjunctions of 24 literals each of 128 variables, literals drawn by a fixed generator, and `stats`.
 adder N: the sums and carries of two numbers of N bits, whose bits are interleaved, the least first, and `stats`.
@@ -12,6 +20,59 @@ import sys
 
 def level(variables):
     return (variables - 1).bit_length()
+
+
+def values(n):
+    yield "level 1"
+    yield "let f = @0"
+    for _ in range(n):
+        yield "value f 10"
+
+
+def names(n):
+    yield "level 1"
+    for number in range(n):
+        yield f"let name_{number:015} = @1"
+    for _ in range(100):
+        for number in range(n):
+            yield f"value name_{number:015} 10"
+
+
+def line(n):
+    yield "x" * n
+
+
+def comment(n):
+    yield "#" * n
+
+
+def folded(argument, n):
+    yield "level 0"
+    begins = "let f = and("
+    count = (n - len(begins)) // (len(argument) + 1)
+    yield (begins + ",".join([argument] * count) + ")").ljust(n)
+
+
+def fold(n):
+    yield from folded("@0", n)
+
+
+def nesting(n):
+    yield from folded("not(" * 60 + "@0" + ")" * 60, n)
+
+
+def pairs(n):
+    yield f"level {level(n)}"
+    for i in range(1, n):
+        yield f"let p{i} = and(@{i - 1},@{i})"
+    yield "stats"
+
+
+def blif(n):
+    yield from (".model chain", ".inputs a", ".outputs last", ".names a last", "1 1")
+    for number in range(n):
+        yield from (f".names n{number} a n{number + 1}", "10 1", "01 1")
+    yield ".end"
 
 
 def parity(n):
@@ -74,8 +135,13 @@ def adder(n):
     yield "stats"
 
 
+WORKLOADS = (
+    values, names, line, comment, fold, nesting, pairs, blif, parity, conjunctions, adder, clauses, equality
+)
+
 if __name__ == "__main__":
-    if len(sys.argv) != 3 or sys.argv[1] not in ("parity", "conjunctions", "adder", "clauses", "equality"):
+    workloads = {workload.__name__: workload for workload in WORKLOADS}
+    if len(sys.argv) != 3 or sys.argv[1] not in workloads:
         sys.exit(__doc__)
-    for line in globals()[sys.argv[1]](int(sys.argv[2])):
-        print(line)
+    for text in workloads[sys.argv[1]](int(sys.argv[2])):
+        print(text)

@@ -1,7 +1,8 @@
 #!/usr/bin/env bash
 # Runs each script of examples/, tests/edges/ and tests/refusals/ on the built program, and compares what it writes and
 # its status. A script has ten seconds.
-# NAME.cfl is the script, NAME.out what has to be written, and NAME.status the status where it isn't 0.
+# NAME.cfl is the script, NAME.out what has to be written, NAME.status the status where it isn't 0, and NAME.words the
+# program's words where they aren't `run`.
 set -u
 cd "$(dirname "${BASH_SOURCE[0]}")/.." || exit 1
 passed=0
@@ -13,7 +14,9 @@ for script in examples/*.cfl tests/edges/*.cfl tests/refusals/*.cfl; do
     name=${script%.cfl}
     wanted=0
     if [ -f "$name.status" ]; then wanted=$(cat "$name.status"); fi
-    timeout 10 ./cflobdd run <"$script" >"$answer"
+    words=(run)
+    if [ -f "$name.words" ]; then read -ra words <"$name.words"; fi
+    timeout 10 ./cflobdd "${words[@]}" <"$script" >"$answer"
     status=$?
     if [ "$status" = "$wanted" ] && cmp -s "$answer" "$name.out"; then
         passed=$((passed + 1))

@@ -19,6 +19,13 @@ longest_line bytes h = rw h refl
 long_line : (bytes : List ℕ) → length bytes ≡ 65537 → fit 0 (record { bytes = bytes; newline = true }) ≡ LineTooLong
 long_line bytes h = rw h refl
 
+-- A line that fits is known by its newline, or by its last byte where it has none.
+known_by_newline : known_by 3 (record { bytes = codes "a"; newline = true }) Fits ≡ 5
+known_by_newline = refl
+
+known_by_end : known_by 3 (record { bytes = codes "a"; newline = false }) Fits ≡ 4
+known_by_end = refl
+
 -- it is known by its byte 65,537, and a long script by its byte 1,073,741,825
 known_by_byte : known_by 3 (record { bytes = codes "a"; newline = true }) LineTooLong ≡ 65540
 known_by_byte = refl

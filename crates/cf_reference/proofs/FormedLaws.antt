@@ -1,19 +1,21 @@
 -- What a line spells is formed, where its numbers fit.
 use Rattle.std.specs.Option.{option_map}
 use Rattle.std.specs.Str.{bytes_eq}
-use Rattle.std.specs.Prelude.{codes}
-use Rattle.std.proofs.Common.{ℕ, ℤ, pos, suc, ◌≡◌, ◌&&◌, Bool, true, false, cond, List, [], Option, Some, None, refl, ap, sym, subst, ◌∙◌}
+use Rattle.std.specs.Prelude.{codes, nat_le}
+use Rattle.std.proofs.Common.{ℕ, ℤ, pos, suc, ◌≡◌, ◌&&◌, Bool, true, false, cond, List, [], length, Option, Some, None, refl, ap, sym, subst, ◌∙◌}
 use Rattle.std.proofs.lemmas.Bool.{and_parts, leb-true}
+use Rattle.cf_model.specs.Assignments.{are_digits}
 use Rattle.cf_model.specs.Values.{Fits, fits}
 use Rattle.cf_model.proofs.TermLaws.{fitting-some}
 use Rattle.cf_reference.specs.declared.grammar.Keyword.TheVariants as keyword
 use Rattle.cf_reference.specs.declared.grammar.Keyword.{Keyword}
-use Rattle.cf_reference.specs.Words.{natural, number, place, is_name}
+use Rattle.cf_reference.specs.Words.{natural, number, place, is_name, is_bits}
 use Rattle.cf_reference.specs.declared.grammar.Head.{Head}
 use Rattle.cf_reference.specs.Heads.{Kind, AnExpression, AVariable, ANatural, ANumber, ABit, kind_at}
 use Rattle.cf_reference.specs.Trees.{Atom, Variable, Position, Number, Tree, Num, At, Named, Call, Arguments, none, more, atom, atom_fits, tree_fits, arguments_fit, IsFormedAtom, IsFormed, AreFormed, Statement, statement_fits, IsFormedStatement}
 use Rattle.cf_reference.specs.Grammar.{variable_of, atom_of, SpellsTree, SpellsArguments, SpellsBehind}
 use Rattle.cf_reference.proofs.KindFacts.{leaf-place, place-low, natural-low}
+use Rattle.cf_reference.proofs.TestFacts.{right}
 
 -- a number that fits by the test
 pub fits-true : (n : ℤ) → fits n ≡ true → Fits n
@@ -67,6 +69,11 @@ mutual
       let both = and_parts (atom_fits a) (arguments_fit es) fit in
       (formed_atom (kind_at head i) h.1.word a h.1.is both.0, formed_arguments es head (suc i) h.0 rest h.2 both.1)
 
+-- BITS have no other bytes
+bits-digits : (word : List ℕ) → is_bits word ≡ true → are_digits word ≡ true
+unfolding is_bits
+bits-digits word h = right (nat_le 1 (length word)) (are_digits word) h
+
 pub formed_behind : (key : Keyword) (t : Statement) (bytes : List ℕ) (all : List (List ℕ)) → SpellsBehind key t bytes all → statement_fits t ≡ true → IsFormedStatement t
 formed_behind keyword.Level t bytes all h fit =
     let f : fits h.1 ≡ true = sym (ap statement_fits h.4) ∙ fit in
@@ -75,7 +82,7 @@ formed_behind keyword.Var t bytes all h fit = subst IsFormedStatement (sym h.2) 
 formed_behind keyword.Let t bytes all h fit =
     let f : tree_fits h.1 ≡ true = sym (ap statement_fits h.6) ∙ fit in
     subst IsFormedStatement (sym h.6) (formed_tree h.1 h.2 [] h.5 f)
-formed_behind keyword.Value t bytes all h fit = subst IsFormedStatement (sym h.5) h.4
+formed_behind keyword.Value t bytes all h fit = subst IsFormedStatement (sym h.5) (bits-digits _ h.4)
 formed_behind keyword.First t bytes all h fit =
     let f : fits h.2 ≡ true = sym (ap statement_fits h.6) ∙ fit in
     subst IsFormedStatement (sym h.6) (fits-true h.2 f)

@@ -9,7 +9,6 @@ use Rattle.std.proofs.lemmas.Slice.Eq.{bytes_eq-Decides}
 use Rattle.cf_model.specs.Assignments.{bits_of_text, are_digits}
 use Rattle.cf_model.specs.Renumbering.{place}
 use Rattle.cf_model.specs.FlatFunctions.{FlatFunction, variable}
-use Rattle.cf_reference.specs.Words.{is_bits}
 use Rattle.cf_reference.specs.States.{State, level_in, is_among, position_of, function_named, bind, named, is_bound, repeats, names_in}
 use Rattle.cf_reference.specs.Answers.{spelled}
 use Rattle.cf_reference.specs.Carrying.{clashes}
@@ -142,13 +141,13 @@ pub clashes-after : (s : State) (names : List (List ℕ)) → clashes s names �
 clashes-after s names =
     sym (clashes_after_is s [] names ∙ ap (λ b. list_any (is_bound s) names || (b || repeats names)) (none_among names))
 
--- the bits that BITS of up to 128 digits spell
-pub spelled-is : (text : List ℕ) → is_bits text ≡ true → length text ≤ 128 → bits_of_text text ≡ Some (spelled text)
-unfolding is_bits
-spelled-is text h short =
-    let some = left (nat_le 1 (length text)) (list_all (λ b. b == 48 || b == 49) text) h in
-    let digits = right (nat_le 1 (length text)) (list_all (λ b. b == 48 || b == 49) text) h in
-    ap (λ b. cond b (Some (spelled text)) None) (all_three (nat_le 1 (length text)) (nat_le (length text) 128) (are_digits text) some (is_le (length text) 128 short) digits)
+-- the bits that one digit to 128 spell
+pub spelled-is : (text : List ℕ) → are_digits text ≡ true → 1 ≤ length text → length text ≤ 128
+    → bits_of_text text ≡ Some (spelled text)
+spelled-is text digits some short =
+    ap (λ b. cond b (Some (spelled text)) None)
+    (all_three (nat_le 1 (length text)) (nat_le (length text) 128) (are_digits text)
+    (is_le 1 (length text) some) (is_le (length text) 128 short) digits)
   where
     all_three : (a b c : Bool) → a ≡ true → b ≡ true → c ≡ true → (a && b) && c ≡ true
     all_three a b c x y z = ap (λ t. (t && b) && c) x ∙ ap (λ t. t && c) y ∙ z

@@ -49,8 +49,9 @@ fit before line =
     else if nat_lt line_limit (length line.bytes) then LineTooLong
     else Fits
 
--- how many bytes of the script have to be read until it is known how the line fares
+-- How many bytes of the script have to be read until it is known what the line does: a line that fits is read with its
+-- newline, a line that is too long only to the byte that makes it so.
 abbrev pub known_by : ℕ → Line → Fit → ℕ
-known_by before line Fits = before + length line.bytes
+known_by before line Fits = before + size line
 known_by before line LineTooLong = before + (line_limit + 1)
 known_by before line ScriptTooLong = script_limit + 1

@@ -1,9 +1,9 @@
 use Rattle.std.specs.Prelude.{◌≡◌, ℕ, suc, ℤ, pos, ◌+◌, ◌≤◌, ◌≤ℤ◌, ◌&&◌, ◌||◌, max, Bool, true, List, length, IsTrue}
 use Rattle.std.specs.Ordering.{int_eq}
+use Rattle.cf_model.specs.Assignments.{are_digits}
 use Rattle.cf_model.specs.Values.{Fits, fits}
 use Rattle.cf_reference.specs.declared.grammar.Head.{Head}
 use Rattle.cf_reference.specs.Heads.{Kind, AnExpression, AVariable, ANatural, ANumber, ABit, kind_at, takes}
-use Rattle.cf_reference.specs.Words.{is_bits}
 
 -- Expressions and statements as trees; their numbers may be of any size.
 
@@ -117,12 +117,12 @@ abbrev mutual
   AreFormed head i (more e es) = (kind_at head i ≡ AnExpression) × IsFormed e × AreFormed head (suc i) es
   AreFormed head i (atom a es) = IsFormedAtom (kind_at head i) a × AreFormed head (suc i) es
 
--- the same for a statement, with its lists that aren't empty and its BITS
+-- the same for a statement, with its lists that aren't empty and its BITS, which have no byte but `0` and `1`
 abbrev pub IsFormedStatement : Statement → Type 0
 IsFormedStatement (Level n) = IsNatural n
 IsFormedStatement (Vars names) = 1 ≤ length names
 IsFormedStatement (Let name e) = IsFormed e
-IsFormedStatement (Value name bits) = IsTrue (is_bits bits)
+IsFormedStatement (Value name bits) = IsTrue (are_digits bits)
 IsFormedStatement (First name n) = Fits n
 IsFormedStatement (Listed name n most) = Fits n × IsNatural most
 IsFormedStatement other = Unit {0}

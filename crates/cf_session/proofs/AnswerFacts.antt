@@ -10,7 +10,7 @@ use Rattle.std.proofs.lemmas.Bool.Decides.{nat_tests, Decides-int_eq}
 use Rattle.std.proofs.lemmas.Option.{same_Some, none-some, slice_get-get_or, slice_get_within, get_or_from_slice_get}
 use Rattle.std.proofs.lemmas.List.Elements.{All-cons, All-nil, All-head, All-tail, All-get_or}
 use Rattle.std.proofs.lemmas.List.{length-map, length-append, map-append}
-use Rattle.cf_model.specs.Assignments.{Assignment, bits, number_of, all_bits, bits_of_text}
+use Rattle.cf_model.specs.Assignments.{Assignment, are_digits, bits, number_of, all_bits, bits_of_text}
 use Rattle.cf_model.specs.FlatFunctions.{FlatFunction, IsFlatFunction, IsAssignment, IsLeast, value_at, variable}
 use Rattle.cf_model.specs.Values.{Fits}
 use Rattle.cf_model.specs.Patterns.{pattern_of, sizes}
@@ -20,7 +20,6 @@ use Rattle.cf_model.proofs.FlatFunctionLaws.{number_in}
 use Rattle.cf_pkg.specs.declared.Func.{Func}
 use Rattle.cf_pkg.specs.Packages.{Package, OwnsFunction, meaning}
 use Rattle.cf_reference.specs.Trees.{Statement}
-use Rattle.cf_reference.specs.Words.{is_bits}
 use Rattle.cf_reference.specs.Reasons.{OutOfRange, LevelsDiffer}
 use Rattle.cf_reference.specs.Replies.{value_reply, bits_reply, none_reply, equal_reply, different_reply, size_reply, stats_reply}
 use Rattle.cf_reference.specs.States.{named, at, level_in}
@@ -29,6 +28,7 @@ use Rattle.cf_reference.specs.Answers as answers
 use Rattle.cf_reference.specs.Carrying.{Refuses, Goes, lists, tell_value, tell_first, tell_list, tell_equal, tell_size, tell_stats, step}
 use Rattle.cf_reference.proofs.AnswerLaws.{first_answer-some, first_answer-none, equal_answer-different, equal_answer-equal}
 use Rattle.cf_reference.proofs.FailureLaws.{least-same}
+use Rattle.cf_reference.proofs.NameLaws.{spelled-is}
 use Rattle.cf_reference.proofs.StepLaws.{Asks, step-NoName, step-Value, step-Value-bits, step-First, step-Listed, step-Listed-most, step-Equal, step-Equal-levels, step-Equal-NoName, step-Size, step-Stats}
 use Rattle.cf_witness.specs.Witnesses.{is_value, assignments_of}
 use Rattle.cf_witness.proofs.Lists.{filter_same}
@@ -93,20 +93,15 @@ text-spelled text b e = by ((nat_le 1 (length text) && nat_le (length text) 128)
 le_true : (m n : ℕ) → m ≤ n → nat_le m n ≡ true
 le_true m n h = grind (arith, nat_tests)
 
-pub text-long : (text : List ℕ) (level : ℕ) → IsTrue (is_bits text) → level ≤ 7 → None ≡ bits_of_text text
+pub text-long : (text : List ℕ) (level : ℕ) → IsTrue (are_digits text) → level ≤ 7 → None ≡ bits_of_text text
     → length text ≢ 2 ^ level
-unfolding is_bits
-text-long text level h low e full =
-    by (nat_le 1 (length text)) (list_all (λ b. b == 48 || b == 49) text) h
-    (e ∙ ap (λ t. cond ((nat_le 1 (length text) && t) && list_all (λ b. b == 48 || b == 49) text) (Some (spelled text)) None) (le_true (length text) 128 short))
+text-long text level digits low none full = none-some (spelled text) (none ∙ spelled-is text digits some short)
   where
+    some : 1 ≤ length text
+    some = let least = pow_mono {i = 0} {j = level} (omega arith) in omega (arith, least, full)
+
     short : length text ≤ 128
     short = let most = pow_mono {i = level} {j = 7} low in omega (arith, most, full)
-
-    by : (a d : Bool) → a && d ≡ true → None ≡ cond ((a && true) && d) (Some (spelled text)) None → ⊥
-    by true true h e = none-some (spelled text) e
-    by true false h e = false≢true h
-    by false d h e = false≢true h
 
 -- `first`
 pub first-goes : (h : Held) (name : List ℕ) (v : ℤ) (f : Func) (b : List Bool) → IsSome h.level → IsNamed h name f

@@ -1,11 +1,10 @@
 //! The statements that ask.
 
 ghost use Rattle.std.specs.Prelude.{◌≡◌, ◌≢◌, ◌^◌, ◌<◌, ◌≤◌, length, IfSome, IfNone, IsTrue, IsSome, IfOk, IfErr, OnOk, Some};
-ghost use Rattle.cf_model.specs.Assignments.{bits};
+ghost use Rattle.cf_model.specs.Assignments.{are_digits, bits};
 ghost use Rattle.cf_model.specs.FlatFunctions.{IsFlatFunction, value_at};
 ghost use Rattle.cf_pkg.specs.Packages.{OwnsFunction, Keeps, meaning};
 ghost use Rattle.cf_pkg.specs.Jobs.{AreLevel};
-ghost use Rattle.cf_reference.specs.Words.{is_bits};
 ghost use Rattle.cf_reference.specs.States.{named};
 ghost use Rattle.cf_reference.specs.Answers.{spelled, equal_answer, list_reply};
 ghost use Rattle.cf_reference.specs.Carrying.{Refuses, Goes, lists, tell_value, tell_first, tell_list, tell_equal, tell_size, tell_stats};
@@ -45,7 +44,7 @@ fn value_there<L: Ledger>(pkg: &Pkg, f: Func, at: Bits, blank: Blank) -> i128
 /// length.
 fn assignment_of(level: u8, text: &[u8]) -> Option<Bits>
     requires level { level ≤ 7 }
-    requires bits { IsTrue (is_bits text.now) }
+    requires bits { IsTrue (are_digits text.now) }
     ensures spelled { IfSome result (λ b. bits b ≡ spelled text.now) }
     ensures len { IfSome result (λ b. b.len ≡ 2 ^ level) }
     ensures found { IfSome result (λ b. length text.now ≡ 2 ^ level) }
@@ -105,7 +104,7 @@ impl Session {
     /// Makes the text the value of a function at an assignment. It takes no memory.
     pub(crate) fn value(&self, name: &[u8], bits: &[u8], text: &mut Text) -> Result<(), Refusal>
         requires set { IsSome self.now.level }
-        requires bits { IsTrue (is_bits bits.now) }
+        requires bits { IsTrue (are_digits bits.now) }
         ensures goes { OnOk result (tell_value (state_of self.now) name.now bits.now ≡ Goes (state_of self.now) text.new) }
         ensures refused { IfErr result (λ r. tell_value (state_of self.now) name.now bits.now ≡ Refuses (reason_of r)) }
     {

@@ -6,7 +6,6 @@ ghost use Rattle.cf_io.specs.Shown.{WritingIsTold};
 ghost use Rattle.cf_pkg.specs.Packages.{Keeps};
 ghost use Rattle.cf_reference.specs.Trees.{Formed, IsFormed};
 ghost use Rattle.cf_reference.specs.Trees as tree;
-ghost use Rattle.cf_reference.specs.Words.{is_bits};
 ghost use Rattle.cf_reference.specs.Answers.{list_reply};
 ghost use Rattle.cf_reference.specs.States.{is_among};
 ghost use Rattle.cf_reference.specs.Carrying.{Goes, define, tell_list, step};

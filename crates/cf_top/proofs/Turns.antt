@@ -1,7 +1,7 @@
 -- What one turn of the loop over a script's lines comes to.
 use Rattle.std.proofs.Common.{ℕ, ◌≡◌, ◌+◌, ◌≤◌, ◌<◌, Bool, true, false, List, [], ◌∷◌, length, IsTrue, refl, ap, sym, ◌∙◌, subst, arith, cond}
 use Rattle.std.proofs.lemmas.Bool.{false≢true}
-use Rattle.cf_reference.specs.Lines.{Line, Fit, Fits, LineTooLong, ScriptTooLong, fit, known_by, lines}
+use Rattle.cf_reference.specs.Lines.{Line, Fit, Fits, LineTooLong, ScriptTooLong, fit, known_by, size, lines}
 use Rattle.cf_reference.specs.Parsing.{parse}
 use Rattle.cf_reference.specs.States.{State, Files, initial}
 use Rattle.cf_reference.specs.Carrying.{Outcome, Refuses, Goes}
@@ -45,7 +45,7 @@ stops_here files whole s s' n handed from upto before now after old line more ou
 -- a line that is not too long stops the run
 pub line_stops : (files : Files) (whole : Ending) (s s' : State) (n from upto : ℕ) (held kept : Held) (before now after old new line : List ℕ) (newline : Bool) (how : Status)
     → Follows whole (run_lines files s n held.handed (lines old)) before now → IsFirst held kept old new line newline → StopsAt (step_parsed files s (parse line)) n s now s' after how
-    → from + (held.handed + length line) ≤ upto → Meets whole before after from upto s' how
+    → from + (held.handed + size (record { bytes = line; newline = newline })) ≤ upto → Meets whole before after from upto s' how
 line_stops files whole s s' n from upto held kept before now after old new line newline how follows first stops read =
     let here : Line = record { bytes = line; newline = newline } in
     stops_here files whole s s' n held.handed from upto before now after old (record { bytes = line; newline = newline }) (lines new) (step_parsed files s (parse line)) how follows first.lines

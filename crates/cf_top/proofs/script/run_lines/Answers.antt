@@ -19,7 +19,6 @@ returns-in-Stops-clause-run g c = λ told_in told_out.
     let here_out : IsTrue (g.K.Sink.shown c.loop-line.out).tells = subst IsTrue (sym kept.out_told) told_out in
     let next = c.next_line.follows.holds-at-none in
     let first = line_answered _ _ _ _ c.next_line.result c.in-Line.line (next.hands here_in (kept.attached told_in)) c.in-Line.is in
-    let moved = line_moved _ _ _ _ c.next_line.result c.in-Line.line next.advances c.in-Line.is in
     let taken = taken_since (g.S.Source.shown c.args.script.now).taken (g.S.Source.shown c.loop-line.script).taken (g.S.Source.shown c.next_line.new.source).taken (taken_by c.loop-line.lines) (taken_by c.next_line.follows.lender-at-none) kept.taken next.advances.taken in
     line_stops (g.F.Files.shown c.args.files.now).entries _ (state_of c.loop-line.session) (state_of c.carry_line.new.session) (c.loop-line.number + 1) (g.S.Source.shown c.args.script.now).taken (g.S.Source.shown c.next_line.new.source).taken c.loop-line.lines c.next_line.follows.lender-at-none _ _ _
     (c.loop-line.lines.bytes ++ (g.S.Source.shown c.loop-line.script).left) _ c.in-Line.line.now first.0 c.in-Stops.status
@@ -27,7 +26,7 @@ returns-in-Stops-clause-run g c = λ told_in told_out.
     (subst (Carries (step_parsed (g.F.Files.shown c.args.files.now).entries (state_of c.loop-line.session) (parse c.in-Line.line.now)) (c.loop-line.number + 1) (state_of c.loop-line.session) (g.K.Sink.shown c.loop-line.out).written (state_of c.carry_line.new.session) (g.K.Sink.shown c.carry_line.new.out).written) c.in-Stops.is
     (subst (λ (files : Files). Carries (step_parsed files (state_of c.loop-line.session) (parse c.in-Line.line.now)) (c.loop-line.number + 1) (state_of c.loop-line.session) (g.K.Sink.shown c.loop-line.out).written (state_of c.carry_line.new.session) (g.K.Sink.shown c.carry_line.new.out).written c.carry_line.result)
     (ap (λ f. (g.F.Files.shown f).entries) kept.files) (c.carry_line.ensures.carries here_out)))
-    (omega (arith, taken, moved.1))
+    (omega (arith, taken, first.1.handed))
 
 pub returns-in-End-clause-run : goal.returns-in-End-clause-run
 returns-in-End-clause-run g c = λ told_in told_out.
