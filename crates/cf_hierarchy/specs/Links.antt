@@ -2,7 +2,7 @@ use Rattle.std.specs.Prelude.{◌≡◌, ℕ, ◌<◌, ◌≤◌, List, Some, ma
 use Rattle.cf_hierarchy.specs.declared.blocks.Call.{Call}
 use Rattle.cf_hierarchy.specs.declared.blocks.Block.{Block}
 use Rattle.cf_hierarchy.specs.Hierarchy.{block_at}
-use Rattle.cf_hierarchy.specs.Spreads.{IsDeep}
+use Rattle.cf_hierarchy.specs.Spreads.{IsAtMostDeep}
 use Rattle.cf_hierarchy.specs.Chains.{total}
 use Rattle.cf_hierarchy.specs.Flattening.{HasCycle}
 use Rattle.cf_hierarchy.specs.declared.linking.LinkFault.{LinkFault}
@@ -26,8 +26,9 @@ pub record IsTooDeep (blocks : List Block) : Type 0 where
 abbrev pub expanded : List Block → List ℕ → ℕ
 expanded blocks weights = total (calls blocks) weights 64 0
 
+-- No chain of calls is too long, the expansion isn't too large, and no signals need one another in a ring.
 pub record HasNoFault (blocks : List Block) (weights : List ℕ) : Type 0 where
-  pub deep : IsDeep blocks 64
+  pub deep : IsAtMostDeep blocks 64
   pub large : expanded blocks weights ≤ 1000000
   pub cycle : HasCycle blocks → ⊥
 
@@ -35,5 +36,6 @@ pub record HasNoFault (blocks : List Block) (weights : List ℕ) : Type 0 where
 abbrev pub HasFault : List Block → List ℕ → LinkFault → Type 0
 HasFault blocks weights fault.NoMemory = Unit {0}
 HasFault blocks weights fault.TooDeep = IsTooDeep blocks
-HasFault blocks weights fault.TooLarge = IsDeep blocks 64 × (1000000 < expanded blocks weights)
-HasFault blocks weights fault.Cycle = IsDeep blocks 64 × (expanded blocks weights ≤ 1000000) × HasCycle blocks
+HasFault blocks weights fault.TooLarge = IsAtMostDeep blocks 64 × (1000000 < expanded blocks weights)
+HasFault blocks weights fault.Cycle =
+    IsAtMostDeep blocks 64 × (expanded blocks weights ≤ 1000000) × HasCycle blocks

@@ -7,7 +7,8 @@ use cf_order::Wires;
 use std::alloc::Global;
 use std::marker::Model;
 
-/// Where a block's signal has its value from: an input of the block, a gate, or a signal of a block that it calls.
+/// Where a block's signal has its value from: an input of the block, a gate, or a signal of a block
+/// that it calls.
 #[derive(Drop)]
 pub enum Driver {
     Formal(u64),

@@ -2,14 +2,15 @@
 
 ghost use Rattle.std.specs.Prelude.{◌≡◌, ℕ, ◌+◌, ◌<◌, ◌≤◌, ◌^◌, List, [], ◌∷◌, ◌++◌, Bool, All, Contains, map, length, slice_index, IfOk};
 ghost use Rattle.cf_order.specs.Orders.{IsOrder};
-ghost use Rattle.cf_hierarchy.specs.Circuits.{needs, IsNode, UsesLower, Shows, AddsNode};
+ghost use Rattle.cf_hierarchy.specs.Circuits.{needs, IsNode, UsesLower, HaveWires, ShowAll, AddsNode};
 
 use crate::gates::{Gate, Gates, Node};
 use crate::NoMemory;
 use cf_order::Wires;
 use std::alloc::Global;
 
-/// A circuit in which each gate uses lower wires only, and the wire of each signal that it was made of.
+/// A circuit in which each gate uses lower wires only, and the wire of each signal that it was made
+/// of.
 #[derive(Drop)]
 pub struct Flat {
     pub inputs: u64,
@@ -25,8 +26,8 @@ pub fn flat_of(alloc: Global, nodes: &[Node], inputs: u64, order: &[u64]) -> Res
     ensures inputs { IfOk result (λ flat. flat.inputs ≡ inputs) }
     ensures signals { IfOk result (λ flat. length flat.wires ≡ length nodes.now) }
     ensures lower { IfOk result (λ flat. UsesLower inputs flat.gates) }
-    ensures wires { IfOk result (λ flat. (s : ℕ) → s < length nodes.now → slice_index flat.wires s < inputs + length flat.gates) }
-    ensures shows { IfOk result (λ flat. (s : ℕ) → s < length nodes.now → Shows nodes.now inputs flat.gates s (slice_index flat.wires s)) }
+    ensures wires { IfOk result (λ flat. HaveWires nodes.now inputs flat.gates flat.wires) }
+    ensures shows { IfOk result (λ flat. ShowAll nodes.now inputs flat.gates flat.wires) }
 {
     let mut gates = Gates::new(alloc);
     let mut wires = vec![in alloc; 0u64; nodes.len()]?;

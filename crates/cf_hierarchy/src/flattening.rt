@@ -4,9 +4,9 @@ ghost use Rattle.std.specs.Prelude.{◌≡◌, ℕ, ◌+◌, ◌<◌, ◌≤◌,
 ghost use Rattle.std.specs.List.{slice_get};
 ghost use Rattle.cf_hierarchy.specs.Circuits.{UsesLower, needs};
 ghost use Rattle.cf_hierarchy.specs.Hierarchy.{IsBlock};
-ghost use Rattle.cf_hierarchy.specs.Spreads.{IsDeep, no_block};
+ghost use Rattle.cf_hierarchy.specs.Spreads.{IsAtMostDeep};
 ghost use Rattle.cf_hierarchy.specs.declared.flattening.FlatFault.{FlatFault};
-ghost use Rattle.cf_hierarchy.specs.Flattening.{IsRootInput, ShowsHierarchy, IsCycle, HasCycle};
+ghost use Rattle.cf_hierarchy.specs.Flattening.{IsRootInput, root_of, ShowRoot, IsCycle, HasCycle};
 
 use crate::blocks::Block;
 use crate::flat::{Flat, flat_of};
@@ -45,11 +45,11 @@ pub fn flatten(
 ) -> Result<Flat, FlatFault>
     requires some { 0 < length blocks.now }
     requires blocks { All (IsBlock blocks.now) blocks.now }
-    requires inputs { All (IsRootInput inputs) (slice_index_or blocks.now 0 no_block).drivers }
+    requires inputs { All (IsRootInput inputs) (root_of blocks.now).drivers }
     requires levels { levels < 100 }
-    requires deep { IsDeep blocks.now levels }
+    requires deep { IsAtMostDeep blocks.now levels }
     ensures lower { IfOk result (λ flat. UsesLower inputs flat.gates) }
-    ensures shows { IfOk result (λ flat. (s : ℕ) → s < length (slice_index_or blocks.now 0 no_block).drivers → ShowsHierarchy blocks.now inputs flat.gates flat.wires s) }
+    ensures shows { IfOk result (λ flat. ShowRoot blocks.now inputs flat.gates flat.wires) }
     ensures no_cycle { IfOk result (λ _. HasCycle blocks.now → ⊥) }
     ensures cycle { IfErr result (IsCycle blocks.now) }
 {

@@ -6,7 +6,8 @@ use crate::NoMemory;
 use std::alloc::Global;
 use std::marker::Model;
 
-/// A copy of a block: the copy that calls it, the place of the call there, and the number of its first signal.
+/// A copy of a block: the copy that calls it, the place of the call there, and the number of its
+/// first signal.
 #[derive(Clone, Copy, Debug)]
 pub struct Instance {
     pub block: u64,

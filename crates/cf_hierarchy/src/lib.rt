@@ -1,6 +1,6 @@
-//! Hierarchies of blocks: a block is a model whose signals and calls are numbered. How long and how many its chains of
-//! calls are, the copies of blocks that it expands to, and the flat circuit of gates over lower wires that has the value of
-//! each signal.
+//! Hierarchies of blocks: a block is a model whose signals and calls are numbered. How long and how
+//! many its chains of calls are, the copies of blocks that it expands to, and the flat circuit of
+//! gates over lower wires that has the value of each signal.
 #![tactic(auto)]
 
 mod blocks;

@@ -1,10 +1,10 @@
-//! The flat circuit of a hierarchy, after its chains of calls are measured and before anything is expanded.
+//! The flat circuit of a hierarchy, after its chains of calls are measured and before anything is
+//! expanded.
 
 ghost use Rattle.std.specs.Prelude.{◌≡◌, ℕ, ◌+◌, ◌<◌, ◌≤◌, ◌^◌, List, All, map, length, slice_index_or, IfOk, IfErr};
 ghost use Rattle.cf_order.specs.Orders.{HasNoRing};
 ghost use Rattle.cf_hierarchy.specs.Hierarchy.{IsBlock};
-ghost use Rattle.cf_hierarchy.specs.Spreads.{no_block};
-ghost use Rattle.cf_hierarchy.specs.Flattening.{IsRootInput, ShowsHierarchy};
+ghost use Rattle.cf_hierarchy.specs.Flattening.{IsRootInput, root_of, ShowRoot};
 ghost use Rattle.cf_hierarchy.specs.Links.{called, calls, HasNoFault, HasFault};
 
 use crate::blocks::{Block, Call};
@@ -42,7 +42,8 @@ impl From<NoMemory> for LinkFault {
     }
 }
 
-/// The flat circuit of a hierarchy in which no block calls itself. `weights` has the gates and calls of each block.
+/// The flat circuit of a hierarchy in which no block calls itself. `weights` has the gates and
+/// calls of each block.
 pub fn link(
     alloc: Global,
     blocks: &[Block],
@@ -51,11 +52,11 @@ pub fn link(
 ) -> Result<Flat, LinkFault>
     requires some { 0 < length blocks.now }
     requires blocks { All (IsBlock blocks.now) blocks.now }
-    requires inputs { All (IsRootInput inputs) (slice_index_or blocks.now 0 no_block).drivers }
+    requires inputs { All (IsRootInput inputs) (root_of blocks.now).drivers }
     requires weights { length weights.now ≡ length blocks.now }
     requires room { length blocks.now < 2 ^ 62 }
     requires not_recursive { HasNoRing (calls blocks.now) }
-    ensures shows { IfOk result (λ flat. (s : ℕ) → s < length (slice_index_or blocks.now 0 no_block).drivers → ShowsHierarchy blocks.now inputs flat.gates flat.wires s) }
+    ensures shows { IfOk result (λ flat. ShowRoot blocks.now inputs flat.gates flat.wires) }
     ensures no_fault { IfOk result (λ _. HasNoFault blocks.now weights.now) }
     ensures fault { IfErr result (HasFault blocks.now weights.now) }
 {

@@ -20,7 +20,8 @@ pub fn nodes_of(alloc: Global, blocks: &[Block], spread: &Spread) -> Result<Vec<
     requires blocks { All (IsBlock blocks.now) blocks.now }
     requires grown { Grown blocks.now spread.now.copies spread.now.firsts spread.now.end }
     requires all { length spread.now.copies ≤ length spread.now.firsts }
-    ensures { IfOk result (λ nodes. nodes.items ≡ nodes_from blocks.now spread.now.copies spread.now.firsts 0 spread.now.copies) }
+    ensures { IfOk result (λ nodes. nodes.items
+        ≡ nodes_from blocks.now spread.now.copies spread.now.firsts 0 spread.now.copies) }
 {
     let mut nodes = Vec::new(alloc);
     for i in 0..spread.copies.items().len() {
@@ -42,7 +43,8 @@ fn add_nodes(
     requires all { length spread.now.copies ≤ length spread.now.firsts }
     requires there { i < length spread.now.copies }
     ensures { let drivers = (block_of blocks.now (instance_at spread.now.copies i)).drivers in
-        OnOk result (nodes.new.items ≡ nodes.old.items ++ map (node_of blocks.now spread.now.copies (slice_index spread.now.firsts i) i) drivers) }
+        let at = node_of blocks.now spread.now.copies (slice_index spread.now.firsts i) i in
+        OnOk result (nodes.new.items ≡ nodes.old.items ++ map at drivers) }
 {
     let instance = spread.copies.items()[i as usize];
     let first = spread.firsts.items()[i as usize];
@@ -64,7 +66,8 @@ fn node_at(
     driver: &Driver,
 ) -> Result<Node, NoMemory>
     requires there { i < length copies.now }
-    requires formal { (k : ℕ) → driver.now ≡ drive.Formal k → 0 < i → IsReached blocks.now copies.now i k }
+    requires formal { (k : ℕ) → driver.now ≡ drive.Formal k →
+        0 < i → IsReached blocks.now copies.now i k }
     requires back { (j f : ℕ) → driver.now ≡ drive.Back j f → first + j < length copies.now }
     ensures { IfOk result (λ node. node ≡ node_of blocks.now copies.now first i driver.now) }
 {
@@ -104,7 +107,8 @@ fn formal_at(blocks: &[Block], copies: &[Instance], i: u64, k: u64) -> Result<No
 
 /// The gate over the numbers of all signals.
 fn gate_at(alloc: Global, base: u64, gate: &Gate) -> Result<Gate, NoMemory>
-    ensures { IfOk result (λ g. g ≡ record { ins = map (λ t. base + t) gate.now.ins; cover = gate.now.cover }) }
+    ensures { IfOk result (λ g.
+        g ≡ record { ins = map (λ t. base + t) gate.now.ins; cover = gate.now.cover }) }
 {
     let mut ins = Wires::new(alloc);
     for signal in gate.ins.items() {

@@ -1,22 +1,25 @@
-//! How many calls the longest chain of calls from each model has, and what all chains from it weigh, up to a limit.
+//! How many calls the longest chain of calls from each model has, and what all chains from it
+//! weigh, up to a limit.
 
 ghost use Rattle.std.specs.Prelude.{◌≡◌, ℕ, ◌+◌, ◌<◌, ◌≤◌, ◌^◌, List, min, All, map, length, slice_index, IfOk};
 ghost use Rattle.std.specs.List.{sum_by};
 ghost use Rattle.cf_order.specs.Orders.{IsOrder, row};
-ghost use Rattle.cf_hierarchy.specs.Chains.{IsLongest, tallest, total, ListsChains};
+ghost use Rattle.cf_hierarchy.specs.Chains.{tallest, AreHeights, AreCounts, ListsChains};
 
 use crate::NoMemory;
 use cf_order::Wires;
 use std::alloc::Global;
 
-/// Of each model: the calls of the longest chain, and the weight of all chains, or the limit and one where it is more.
+/// Of each model: the calls of the longest chain, and the weight of all chains, or the limit and
+/// one where it is more.
 #[derive(Drop)]
 pub struct Sizes {
     pub heights: Wires,
     pub counts: Wires,
 }
 
-/// The sizes of models. `calls` has the models that each calls, and `order` has them after those that they call.
+/// The sizes of models. `calls` has the models that each calls, and `order` has them after those
+/// that they call.
 pub fn sizes_of(
     alloc: Global,
     calls: &[Wires],
@@ -28,9 +31,10 @@ pub fn sizes_of(
     requires weights { length weights.now ≡ length calls.now }
     requires limit { limit < 2 ^ 62 }
     requires models { length calls.now < 2 ^ 62 }
-    ensures lengths { IfOk result (λ t. (length t.heights ≡ length calls.now) × (length t.counts ≡ length calls.now)) }
-    ensures heights { IfOk result (λ t. (m : ℕ) → m < length calls.now → IsLongest calls.now m (slice_index t.heights m)) }
-    ensures counts { IfOk result (λ t. (m k : ℕ) → m < length calls.now → slice_index t.heights m ≤ k → slice_index t.counts m ≡ min (limit + 1) (total calls.now weights.now k m)) }
+    ensures lengths { IfOk result (λ t.
+        (length t.heights ≡ length calls.now) × (length t.counts ≡ length calls.now)) }
+    ensures heights { IfOk result (λ t. AreHeights calls.now t.heights) }
+    ensures counts { IfOk result (λ t. AreCounts calls.now weights.now limit t.heights t.counts) }
     ensures chains { IfOk result (λ _. (m k : ℕ) → ListsChains calls.now k m) }
 {
     let mut heights = vec![in alloc; 0u64; calls.len()]?;

@@ -3,7 +3,7 @@
 ghost use Rattle.std.specs.Prelude.{◌≡◌, ℕ, ◌+◌, ◌<◌, ◌≤◌, List, [], ◌∷◌, ◌++◌, Some, All, length, slice_index, IfOk, OnOk};
 ghost use Rattle.cf_order.specs.Orders.{row};
 ghost use Rattle.cf_hierarchy.specs.Hierarchy.{block_at, IsBlock};
-ghost use Rattle.cf_hierarchy.specs.Spreads.{made, made_end, block_of, instance_at, IsSpread, Grown, IsDeep};
+ghost use Rattle.cf_hierarchy.specs.Spreads.{made, made_end, block_of, instance_at, IsSpread, Grown, IsAtMostDeep};
 
 use crate::blocks::{Block, Call};
 use crate::instances::{Instance, Instances};
@@ -24,7 +24,7 @@ pub fn copies_of(alloc: Global, blocks: &[Block], levels: u64) -> Result<Spread,
     requires some { 0 < length blocks.now }
     requires blocks { All (IsBlock blocks.now) blocks.now }
     requires levels { levels < 100 }
-    requires deep { IsDeep blocks.now levels }
+    requires deep { IsAtMostDeep blocks.now levels }
     ensures grown { IfOk result (λ s. Grown blocks.now s.copies s.firsts s.end) }
     ensures all { IfOk result (λ s. length s.copies ≤ length s.firsts) }
 {
@@ -55,9 +55,11 @@ fn spread_one(blocks: &[Block], spread: &mut Spread, i: u64) -> Result<(), NoMem
     requires grown { Grown blocks.now spread.old.copies spread.old.firsts spread.old.end }
     requires next { i ≡ length spread.old.firsts }
     requires there { i < length spread.old.copies }
-    ensures firsts { OnOk result (spread.new.firsts ≡ spread.old.firsts ++ length spread.old.copies ∷ []) }
+    ensures firsts { OnOk result
+        (spread.new.firsts ≡ spread.old.firsts ++ length spread.old.copies ∷ []) }
     ensures copies { let calls = (block_of blocks.now (instance_at spread.old.copies i)).calls in
-        OnOk result (spread.new.copies ≡ spread.old.copies ++ made blocks.now i 0 spread.old.end calls) }
+        OnOk result
+        (spread.new.copies ≡ spread.old.copies ++ made blocks.now i 0 spread.old.end calls) }
     ensures end { let calls = (block_of blocks.now (instance_at spread.old.copies i)).calls in
         OnOk result (spread.new.end ≡ made_end blocks.now spread.old.end calls) }
 {
@@ -69,6 +71,7 @@ fn spread_one(blocks: &[Block], spread: &mut Spread, i: u64) -> Result<(), NoMem
     Ok(())
 }
 
+/// Makes the copies of calls, and answers the number behind their last signal.
 fn add_calls(
     blocks: &[Block],
     calls: &[Call],
@@ -77,7 +80,8 @@ fn add_calls(
     copies: &mut Instances,
 ) -> Result<u64, NoMemory>
     requires { All (λ c. c.block < length blocks.now) calls.now }
-    ensures copies { OnOk result (copies.new ≡ copies.old ++ made blocks.now parent 0 base calls.now) }
+    ensures copies { OnOk result
+        (copies.new ≡ copies.old ++ made blocks.now parent 0 base calls.now) }
     ensures end { IfOk result (λ end. end ≡ made_end blocks.now base calls.now) }
 {
     let mut next = base;

@@ -5,9 +5,19 @@ use Rattle.cf_order.specs.Orders.{Needs, Chain}
 abbrev pub IsOnRing : List (List ℕ) → ℕ → Type 0
 IsOnRing rows s = (rest : List ℕ) × Chain rows s rest s
 
+-- None of the first n signals lies on a ring.
+abbrev pub HasNoneOnRing : List (List ℕ) → ℕ → Type 0
+HasNoneOnRing rows n = (s : ℕ) → s < n → IsOnRing rows s → ⊥
+
+-- The signal lies on a ring, and none before it does.
+abbrev pub IsFirstOnRing : List (List ℕ) → ℕ → Type 0
+IsFirstOnRing rows s = IsOnRing rows s × HasNoneOnRing rows s
+
+-- the signal is marked as seen
 abbrev pub IsSeen : List Bool → ℕ → Type 0
 IsSeen seen t = slice_index_or seen t false ≡ true
 
+-- how many are seen
 abbrev pub trues : List Bool → ℕ
 trues [] = 0
 trues (true ∷ bs) = 1 + trues bs
@@ -22,5 +32,7 @@ pub record Visits (needs : List ℕ) (old new : List Bool) (before after : List 
   pub only : (t : ℕ) → IsSeen new t → (IsSeen old t → ⊥) → Contains needs t
   pub longer : length before ≤ length after
   pub front : (k : ℕ) → k < length before → slice_index after k ≡ slice_index before k
-  pub behind : (k : ℕ) → length before ≤ k → k < length after → Contains needs (slice_index after k) × IsSeen new (slice_index after k)
-  pub listed : (t : ℕ) → IsSeen new t → (IsSeen old t → ⊥) → (k : ℕ) × (k < length after) × (slice_index after k ≡ t)
+  pub behind : (k : ℕ) → length before ≤ k → k < length after
+      → Contains needs (slice_index after k) × IsSeen new (slice_index after k)
+  pub listed : (t : ℕ) → IsSeen new t → (IsSeen old t → ⊥)
+      → (k : ℕ) × (k < length after) × (slice_index after k ≡ t)

@@ -1,5 +1,6 @@
-//! Orders of signals in which each comes after all that it needs, or a ring of signals that need one another. A signal
-//! is anything that needs others by their numbers: a wire of a circuit, or a model that calls models.
+//! Orders of signals in which each comes after all that it needs, or a ring of signals that need
+//! one another. A signal is anything that needs others by their numbers: a wire of a circuit, or a
+//! model that calls models.
 #![tactic(auto)]
 
 mod order;

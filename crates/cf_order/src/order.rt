@@ -27,7 +27,8 @@ impl From<NoMemory> for OrderFault {
     }
 }
 
-/// An order of the signals in which each comes after all that it needs, or a ring. `rows` has the needs of each signal.
+/// An order of the signals in which each comes after all that it needs, or a ring. `rows` has the
+/// needs of each signal.
 pub fn order_of(alloc: Global, rows: &[Wires]) -> Result<Wires, OrderFault>
     requires { All (All (λ t. t < length rows.now)) rows.now }
     ensures order { IfOk result (IsOrder rows.now) }
@@ -69,6 +70,7 @@ fn climb(alloc: Global, rows: &[Wires], walk: &mut Walk) -> Result<(), OrderFaul
     Ok(())
 }
 
+/// What a signal needs.
 fn needs_of(rows: &[Wires], signal: u64) -> &[u64]
     requires { signal < length rows.now }
     ensures { result.now ≡ row rows.now signal }

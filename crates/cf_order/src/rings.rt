@@ -2,7 +2,7 @@
 
 ghost use Rattle.std.specs.Prelude.{◌≡◌, ◌↔◌, ℕ, ◌+◌, ◌<◌, ◌≤◌, ◌^◌, All, IsTrue, length, IfOk, OnOk, MatchOption};
 ghost use Rattle.cf_order.specs.Orders.{row};
-ghost use Rattle.cf_order.specs.Rings.{IsOnRing, Visits};
+ghost use Rattle.cf_order.specs.Rings.{IsOnRing, HasNoneOnRing, IsFirstOnRing, Visits};
 
 use crate::{NoMemory, Wires};
 use std::alloc::Global;
@@ -11,8 +11,8 @@ use std::alloc::Global;
 pub fn first_on_ring(alloc: Global, rows: &[Wires]) -> Result<Option<u64>, NoMemory>
     requires below { All (All (λ t. t < length rows.now)) rows.now }
     requires room { length rows.now < 2 ^ 62 }
-    ensures { IfOk result (λ first. MatchOption first ((s : ℕ) → s < length rows.now → IsOnRing rows.now s → ⊥)
-        (λ s. IsOnRing rows.now s × ((r : ℕ) → r < s → IsOnRing rows.now r → ⊥))) }
+    ensures { IfOk result (λ first.
+        MatchOption first (HasNoneOnRing rows.now (length rows.now)) (IsFirstOnRing rows.now)) }
 {
     for s in 0..rows.len() {
         if is_on_ring(alloc, rows, s as u64)? {
@@ -22,7 +22,8 @@ pub fn first_on_ring(alloc: Global, rows: &[Wires]) -> Result<Option<u64>, NoMem
     Ok(None)
 }
 
-/// Whether a signal lies on a ring: it is met again among all that it needs, directly or through others.
+/// Whether a signal lies on a ring: it is met again among all that it needs, directly or through
+/// others.
 fn is_on_ring(alloc: Global, rows: &[Wires], from: u64) -> Result<bool, NoMemory>
     requires below { All (All (λ t. t < length rows.now)) rows.now }
     requires room { length rows.now < 2 ^ 62 }
@@ -45,7 +46,8 @@ fn is_on_ring(alloc: Global, rows: &[Wires], from: u64) -> Result<bool, NoMemory
 /// Puts those that weren't seen behind the queue.
 fn visit(needs: &[u64], seen: &mut Vec<bool>, queue: &mut Vec<u64>) -> Result<(), NoMemory>
     requires { All (λ t. t < length seen.old.items) needs.now }
-    ensures { OnOk result (Visits needs.now seen.old.items seen.new.items queue.old.items queue.new.items) }
+    ensures { OnOk result
+        (Visits needs.now seen.old.items seen.new.items queue.old.items queue.new.items) }
 {
     for need in needs {
         if seen[*need as usize] {
@@ -57,6 +59,7 @@ fn visit(needs: &[u64], seen: &mut Vec<bool>, queue: &mut Vec<u64>) -> Result<()
     Ok(())
 }
 
+/// What a signal needs.
 fn needs_of(rows: &[Wires], signal: u64) -> &[u64]
     requires { signal < length rows.now }
     ensures { result.now ≡ row rows.now signal }

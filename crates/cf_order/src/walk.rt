@@ -1,4 +1,5 @@
-//! A walk down the needs of signals: what was seen, the way to the signal at hand, and what is done.
+//! A walk down the needs of signals: what was seen, the way to the signal at hand, and what is
+//! done.
 
 ghost use Rattle.std.specs.Prelude.{◌≡◌, ℕ, ◌+◌, ◌-◌, ◌<◌, ◌^◌, List, [], ◌∷◌, ◌++◌, length, map, replicate, drop, slice_index_or, OnOk, IfOk, MatchOption};
 ghost use Rattle.cf_order.specs.declared.walk.Mark.{Mark};
@@ -8,7 +9,8 @@ use crate::{NoMemory, Wires};
 use std::alloc::Global;
 use std::marker::Model;
 
-/// Where a signal stands in a walk: not seen yet, on the way at a depth, or done at a place of the order.
+/// Where a signal stands in a walk: not seen yet, on the way at a depth, or done at a place of the
+/// order.
 #[derive(Clone, Copy, Debug)]
 pub enum Mark {
     New,
@@ -23,7 +25,8 @@ pub struct Frame {
     pub next: u64,
 }
 
-/// A walk down the needs of signals: the mark of each, the way to the signal at hand, and those done, in order.
+/// A walk down the needs of signals: the mark of each, the way to the signal at hand, and those
+/// done, in order.
 #[derive(Drop)]
 pub struct Walk {
     marks: Vec<Mark>,
@@ -36,7 +39,8 @@ impl Model for Walk {
 
     ghost Value = { Progress };
 
-    ghost view = { λ w. record { marks = w.marks.items; stack = w.stack.items; order = w.order.items } };
+    ghost view = { λ w.
+        record { marks = w.marks.items; stack = w.stack.items; order = w.order.items } };
 }
 
 impl Walk {
@@ -119,6 +123,7 @@ impl Walk {
     }
 }
 
+/// The signals of frames.
 fn signals_of(alloc: Global, frames: &[Frame]) -> Result<Wires, NoMemory>
     ensures { IfOk result (λ all. all ≡ map (λ f. f.signal) frames.now) }
 {

@@ -6,4 +6,5 @@ abbrev pub invariant-loop-level : goal.invariant-loop-level
 invariant-loop-level l = Level l.blocks l.spread.copies l.spread.firsts l.spread.end l.level
 
 abbrev pub invariant-loop-i : goal.invariant-loop-i
-invariant-loop-i l = Levelled l.blocks l.spread.copies l.spread.firsts l.spread.end l.i l.upto l.level
+invariant-loop-i l = Levelled l.blocks l.spread.copies l.spread.firsts l.spread.end l.i l.upto
+    l.level
