@@ -1,0 +1,9 @@
+pub mod Values
+pub mod Wiring
+pub mod ChainLaws
+pub mod Sizing
+pub mod Growth
+pub mod NodeLaws
+pub mod SpreadLaws
+pub mod Signals
+pub mod PathLaws

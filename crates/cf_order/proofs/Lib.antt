@@ -1,0 +1,5 @@
+pub mod Walking
+pub mod Work
+pub mod Turns
+pub mod RingLaws
+pub mod Reaching

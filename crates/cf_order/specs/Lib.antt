@@ -1,0 +1,4 @@
+pub mod Orders
+pub mod Rings
+pub mod Walks
+pub mod Sound
