@@ -1,16 +1,11 @@
 -- What is kept of a call, argument by argument.
-use Rattle.std.proofs.Common.{ℕ, suc, ◌≡◌, ◌≤◌, ◌<◌, ◌+◌, false, true, List, [], ◌∷◌, ◌++◌, length, drop, get_or, Option, Some, None, Result, Ok, Err, IfOk, refl, sym, ap, subst, ◌∙◌, arith, append_assoc}
+use Rattle.std.proofs.Common.{ℕ, suc, ◌≡◌, ◌+◌, false, true, List, [], ◌∷◌, ◌++◌, Result, Ok, Err, refl, sym, ap, subst, ◌∙◌, arith, append_assoc}
 use Rattle.std.proofs.lemmas.Bool.{false≢true}
-use Rattle.std.proofs.lemmas.Option.{none-some, same_Some}
 use Rattle.cf_pkg.specs.declared.Func.{Func}
-use Rattle.cf_pkg.specs.Tasks.{Task}
-use Rattle.cf_pkg.specs.Packages.{Package}
 use Rattle.cf_reference.specs.declared.grammar.Head.{Head}
 use Rattle.cf_reference.specs.declared.grammar.Head.TheVariants.{Const, One, Fold, Ite}
 use Rattle.cf_reference.specs.Trees.{Tree, Call, Arguments, none, more, atom, Atom, count}
 use Rattle.cf_reference.specs.Calls.{is_nested}
-use Rattle.cf_script.specs.declared.trees.Expr.{Expr}
-use Rattle.cf_script.specs.Views.{tree_of, listed}
 use Rattle.cf_session.specs.declared.faults.StepFault.{StepFault}
 use Rattle.cf_session.specs.declared.values.Value.{Value}
 use Rattle.cf_session.specs.declared.values.Value.TheVariants.{Function}
@@ -20,7 +15,6 @@ use Rattle.cf_session.specs.Building.{Grows}
 use Rattle.cf_session.specs.Keeping.{IsJobKept, AreStepsKept, IsCallKept, IsKept, AreKept, AnswersCall, Repeats, AnswersKept}
 use Rattle.cf_session.proofs.Growth.{grown_same, grown_on}
 use Rattle.cf_session.proofs.WalkFacts.{from-end, append-none}
-use Rattle.cf_session.proofs.Listed.{later, first_and_later, next_of, none_left}
 use Rattle.cf_session.proofs.Kept.{kept_on, job_on, first_kept, none_kept, IsAtomValue, repeats_from, same_Ok, ok-err}
 
 -- values for the arguments from a place on, behind those for the arguments before

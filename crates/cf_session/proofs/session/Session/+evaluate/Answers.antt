@@ -12,10 +12,9 @@ use Rattle.cf_reference.proofs.WalkLaws.{walk-Call-arguments}
 use Rattle.cf_script.specs.Vars.{atom_of}
 use Rattle.cf_script.specs.Views.{tree_of, listed}
 use Rattle.cf_session.specs.Arguments.{arguments_of}
-use Rattle.std.proofs.Common.{ℕ, List, [], ◌∷◌, ◌++◌, Result, Ok, Err}
+use Rattle.std.proofs.Common.{ℕ, List, [], ◌∷◌, ◌++◌, Result, Err}
 use Rattle.cf_pkg.specs.declared.Func.{Func}
 use Rattle.cf_session.specs.declared.faults.StepFault.{StepFault}
-use Rattle.cf_session.specs.declared.faults.StepFault.TheVariants.{NoMemory}
 use Rattle.cf_session.specs.declared.values.Value.{Value}
 use Rattle.cf_session.specs.declared.values.Value.TheVariants as value
 use Rattle.cf_session.specs.Sessions.{Held, state_of}
