@@ -12,6 +12,9 @@ pub mod Nesting
 pub mod Listed
 pub mod Places
 pub mod Turns
+pub mod Kept
+pub mod KeptCalls
+pub mod KeepingExamples
 pub mod ListFacts
 pub mod StatementFacts
 pub mod AnswerFacts

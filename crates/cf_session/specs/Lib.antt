@@ -5,5 +5,6 @@ pub mod Arguments
 pub mod Walks
 pub mod Values
 pub mod Building
+pub mod Keeping
 pub mod Statements
 pub mod Stepping

@@ -3,8 +3,9 @@
 ghost use Rattle.std.specs.Prelude.{◌≡◌, ◌≤◌, ◌<◌, ◌^◌, true, false, length, None, IfOk, IfErr};
 ghost use Rattle.cf_model.specs.FlatFunctions.{IsFlatFunction, tabulated, variable};
 ghost use Rattle.cf_ops.specs.Operations.{of_one, of_two, of_three};
-ghost use Rattle.cf_pkg.specs.Packages.{OwnsFunction, Means, Keeps, meaning};
-ghost use Rattle.cf_pkg.specs.Jobs.{AreLevel, map_value, apply_value, ternary_value, HasValues, IsLeastWithout};
+ghost use Rattle.cf_pkg.specs.Tasks as task;
+ghost use Rattle.cf_pkg.specs.Packages.{OwnsFunction, Means, IsRemembered, Keeps, meaning};
+ghost use Rattle.cf_pkg.specs.Jobs.{AreLevel, map_value, apply_value, ternary_value, HasValues, IsLeastWithout, AnswersFinished};
 ghost use Rattle.cf_pkg.specs.Faults.{IfOverflow};
 ghost use Rattle.cf_reference.specs.Heads.{signature};
 ghost use Rattle.cf_reference.specs.Trees.{IsFormed, Num, At, Named, Call};
@@ -16,6 +17,7 @@ ghost use Rattle.cf_session.specs.Sessions.{state_of};
 ghost use Rattle.cf_session.specs.Arguments.{arguments_of};
 ghost use Rattle.cf_session.specs.Values.{meanings, AreOwned, AreOf, Calls, IsFaultOfCall};
 ghost use Rattle.cf_session.specs.Building.{Grows, Builds, IsFault, IsFaultOf, refusal_of, IsFaultOfBuild};
+ghost use Rattle.cf_session.specs.Keeping.{IsJobKept, IsKept, AnswersJob, AnswersCall, AnswersKept, AnswersAgain};
 
 use crate::arguments::{Form, Given, argument, arity, form_of};
 use crate::faults::{Refusal, StepFault};
@@ -35,13 +37,17 @@ impl Session {
     /// range, or levels that differ. Overflow comes last: where the first part of the expression
     /// that has no value somewhere has none, at its least such assignment. The level and the names
     /// stay, and each function of the package means what it meant, whatever the answer is. Memory is
-    /// wanted only once nothing but overflow can refuse the expression.
+    /// wanted only once nothing but overflow can refuse the expression. After Ok the expression is
+    /// kept: each of its jobs is remembered. Where it was kept before, nothing was added, whatever
+    /// the answer is.
     pub fn build(&mut self, expr: &Expr<'_>) -> Result<Func, StepFault>
         requires formed { IsFormed (tree_of expr.now) }
         ensures owned { IfOk result (λ f. OwnsFunction self.new.pkg f) }
         ensures means { IfOk result (λ f. meaning self.new.pkg f ≡ function_from (state_of self.old) (tree_of expr.now)) }
         ensures goes { IfOk result (λ f. refusal_of (state_of self.old) (tree_of expr.now) ≡ None) }
         ensures fault { IfErr result (IsFaultOfBuild (state_of self.old) (tree_of expr.now)) }
+        ensures kept { IfOk result (IsKept self.new (tree_of expr.now)) }
+        ensures again { AnswersAgain self.old self.new (tree_of expr.now) result }
         ensures grows { Grows self.old self.new }
     {
         if self.level.is_none() {
@@ -59,6 +65,8 @@ impl Session {
         ensures means { IfOk result (λ f. Means self.new.pkg f (tabulated level (λ bits. v))) }
         ensures flat { IfOk result (λ f. IsFlatFunction (meaning self.new.pkg f)) }
         ensures fault { IfErr result (λ fault. fault ≡ StepFault.NoMemory) }
+        ensures kept { IfOk result (IsRemembered self.new.pkg (task.Const level v)) }
+        ensures again { AnswersJob self.old self.new (task.Const level v) result }
         ensures grows { Grows self.old self.new }
     {
         let f = self.pkg.constant(level, v)?;
@@ -73,6 +81,8 @@ impl Session {
         ensures means { IfOk result (λ f. Means self.new.pkg f (variable level i)) }
         ensures flat { IfOk result (λ f. IsFlatFunction (meaning self.new.pkg f)) }
         ensures fault { IfErr result (λ fault. fault ≡ StepFault.NoMemory) }
+        ensures kept { IfOk result (IsRemembered self.new.pkg (task.Var level i)) }
+        ensures again { AnswersJob self.old self.new (task.Var level i) result }
         ensures grows { Grows self.old self.new }
     {
         let f = self.pkg.variable(level, i)?;
@@ -86,6 +96,8 @@ impl Session {
         ensures values { IfOk result (λ r. HasValues self.new.pkg r f.head.level (map_value self.old.pkg (of_one word) f)) }
         ensures flat { IfOk result (λ r. IsFlatFunction (meaning self.new.pkg r)) }
         ensures fault { IfErr result (IsFault (IsLeastWithout f.head.level (map_value self.old.pkg (of_one word) f))) }
+        ensures kept { IfOk result (IsRemembered self.new.pkg (task.Map (of_one word) f)) }
+        ensures again { AnswersJob self.old self.new (task.Map (of_one word) f) result }
         ensures grows { Grows self.old self.new }
     {
         let r = self.pkg.map_word(word, f)?;
@@ -99,6 +111,8 @@ impl Session {
         ensures values { IfOk result (λ r. HasValues self.new.pkg r f.head.level (apply_value self.old.pkg (of_two word) f g)) }
         ensures flat { IfOk result (λ r. IsFlatFunction (meaning self.new.pkg r)) }
         ensures fault { IfErr result (IsFault (IsLeastWithout f.head.level (apply_value self.old.pkg (of_two word) f g))) }
+        ensures kept { IfOk result (IsRemembered self.new.pkg (task.Apply (of_two word) f g)) }
+        ensures again { AnswersJob self.old self.new (task.Apply (of_two word) f g) result }
         ensures grows { Grows self.old self.new }
     {
         let r = apply_uncounted::<Brand>(&mut self.pkg, word, f, g, Blank::new(1))?;
@@ -113,6 +127,8 @@ impl Session {
         ensures values { IfOk result (λ r. HasValues self.new.pkg r f.head.level (ternary_value self.old.pkg of_three f g h)) }
         ensures flat { IfOk result (λ r. IsFlatFunction (meaning self.new.pkg r)) }
         ensures fault { IfErr result (IsFault (IsLeastWithout f.head.level (ternary_value self.old.pkg of_three f g h))) }
+        ensures kept { IfOk result (IsRemembered self.new.pkg (task.Ternary of_three f g h)) }
+        ensures again { AnswersJob self.old self.new (task.Ternary of_three f g h) result }
         ensures grows { Grows self.old self.new }
     {
         let r = choose_uncounted::<Brand>(&mut self.pkg, f, g, h, Blank::new(1))?;
@@ -124,6 +140,8 @@ impl Session {
     fn number(&mut self, n: i128) -> Result<Func, StepFault>
         ensures built { IfOk result (λ f. Builds (state_of self.old) (Num n) self.new.pkg f) }
         ensures fault { IfErr result (IsFaultOf (state_of self.old) (Num n)) }
+        ensures kept { IfOk result (IsKept self.new (Num n)) }
+        ensures again { AnswersKept self.old self.new (Num n) result }
         ensures grows { Grows self.old self.new }
     {
         let level = self.level_of_variables();
@@ -135,6 +153,8 @@ impl Session {
         requires walked { walk (state_of self.old) (At position) ≡ None }
         ensures built { IfOk result (λ f. Builds (state_of self.old) (At position) self.new.pkg f) }
         ensures fault { IfErr result (IsFaultOf (state_of self.old) (At position)) }
+        ensures kept { IfOk result (IsKept self.new (At position)) }
+        ensures again { AnswersKept self.old self.new (At position) result }
         ensures grows { Grows self.old self.new }
     {
         let level = self.level_of_variables();
@@ -146,6 +166,8 @@ impl Session {
         requires walked { walk (state_of self.now) (Named name.now) ≡ None }
         ensures built { IfOk result (λ f. Builds (state_of self.now) (Named name.now) self.now.pkg f) }
         ensures fault { IfErr result (IsFaultOf (state_of self.now) (Named name.now)) }
+        ensures kept { IfOk result (IsKept self.now (Named name.now)) }
+        ensures again { AnswersKept self.now self.now (Named name.now) result }
     {
         match self.func_of(name) {
             Some(f) => {
@@ -165,6 +187,8 @@ impl Session {
         requires walked { walk (state_of self.old) (tree_of expr.now) ≡ None }
         ensures built { IfOk result (λ f. Builds (state_of self.old) (tree_of expr.now) self.new.pkg f) }
         ensures fault { IfErr result (IsFaultOf (state_of self.old) (tree_of expr.now)) }
+        ensures kept { IfOk result (IsKept self.new (tree_of expr.now)) }
+        ensures again { AnswersKept self.old self.new (tree_of expr.now) result }
         ensures grows { Grows self.old self.new }
     {
         match form_of(expr) {
@@ -186,6 +210,8 @@ impl Session {
         requires walked { walk (state_of self.old) (tree_of expr.now) ≡ None }
         ensures built { IfOk result (λ f. Builds (state_of self.old) (tree_of expr.now) self.new.pkg f) }
         ensures fault { IfErr result (IsFaultOf (state_of self.old) (tree_of expr.now)) }
+        ensures kept { IfOk result (IsKept self.new (tree_of expr.now)) }
+        ensures again { AnswersKept self.old self.new (tree_of expr.now) result }
         ensures grows { Grows self.old self.new }
     {
         let mut args = Vec::new(self.alloc);
@@ -215,6 +241,8 @@ impl Session {
         requires walked { walk (state_of self.old) (Call head (listed es.now)) ≡ None }
         ensures built { IfOk result (λ f. Builds (state_of self.old) (Call head (listed es.now)) self.new.pkg f) }
         ensures fault { IfErr result (IsFaultOf (state_of self.old) (Call head (listed es.now))) }
+        ensures kept { IfOk result (IsKept self.new (Call head (listed es.now))) }
+        ensures again { AnswersKept self.old self.new (Call head (listed es.now)) result }
         ensures grows { Grows self.old self.new }
     {
         let mut f = match self.evaluate(&es[0]) {
@@ -243,6 +271,8 @@ impl Session {
         requires ruled { call_refusal head (meanings self.old.pkg args.now) ≡ None }
         ensures calls { IfOk result (Calls head (meanings self.old.pkg args.now) self.new.pkg) }
         ensures fault { IfErr result (IsFaultOfCall head (meanings self.old.pkg args.now)) }
+        ensures kept { IfOk result (IsJobKept self.new.pkg head args.now) }
+        ensures again { AnswersCall self.old self.new head args.now result }
         ensures grows { Grows self.old self.new }
     {
         match head {
@@ -280,6 +310,8 @@ fn apply_uncounted<L: Ledger>(
     requires some { 0 < blank.parts }
     ensures values { IfOk result (λ r. HasValues pkg.new r f.head.level (apply_value pkg.old (of_two word) f g)) }
     ensures overflow { IfOverflow result (IsLeastWithout f.head.level (apply_value pkg.old (of_two word) f g)) }
+    ensures remembered { IfOk result (IsRemembered pkg.new (task.Apply (of_two word) f g)) }
+    ensures finished { AnswersFinished pkg.old pkg.new (task.Apply (of_two word) f g) result }
     ensures kept { Keeps pkg.old pkg.new }
 {
     let mut steps = Steps::<L>::open(blank);
@@ -301,6 +333,8 @@ fn choose_uncounted<L: Ledger>(
     requires some { 0 < blank.parts }
     ensures values { IfOk result (λ r. HasValues pkg.new r f.head.level (ternary_value pkg.old of_three f g h)) }
     ensures overflow { IfOverflow result (IsLeastWithout f.head.level (ternary_value pkg.old of_three f g h)) }
+    ensures remembered { IfOk result (IsRemembered pkg.new (task.Ternary of_three f g h)) }
+    ensures finished { AnswersFinished pkg.old pkg.new (task.Ternary of_three f g h) result }
     ensures kept { Keeps pkg.old pkg.new }
 {
     let mut steps = Steps::<L>::open(blank);

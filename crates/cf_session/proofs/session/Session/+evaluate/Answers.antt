@@ -4,7 +4,7 @@ use Rattle.std.specs.Int.{w128}
 use Rattle.std.proofs.lemmas.Int.{to_z-of_z}
 use Rattle.std.proofs.lemmas.Option.{none-some}
 use Rattle.std.proofs.lemmas.Result.{IfOk-weaker, IfErr-weaker}
-use Rattle.cf_reference.specs.Trees.{Tree, Arguments, Call, depth, depths, IsFormed}
+use Rattle.cf_reference.specs.Trees.{Tree, Num, At, Arguments, none, Call, depth, depths, IsFormed}
 use Rattle.cf_reference.specs.Trees as tree
 use Rattle.cf_reference.specs.States.{State}
 use Rattle.cf_reference.specs.Expressions.{walk, walk_atom, meant_atom}
@@ -12,14 +12,21 @@ use Rattle.cf_reference.proofs.WalkLaws.{walk-Call-arguments}
 use Rattle.cf_script.specs.Vars.{atom_of}
 use Rattle.cf_script.specs.Views.{tree_of, listed}
 use Rattle.cf_session.specs.Arguments.{arguments_of}
+use Rattle.std.proofs.Common.{ℕ, List, [], ◌∷◌, ◌++◌, Result, Err}
+use Rattle.cf_pkg.specs.declared.Func.{Func}
+use Rattle.cf_session.specs.declared.faults.StepFault.{StepFault}
+use Rattle.cf_session.specs.declared.values.Value.{Value}
 use Rattle.cf_session.specs.declared.values.Value.TheVariants as value
 use Rattle.cf_session.specs.Sessions.{Held, state_of}
 use Rattle.cf_session.specs.Building.{Grows, Builds, IsFaultOf}
+use Rattle.cf_session.specs.Keeping.{IsKept, AnswersKept}
 use Rattle.cf_session.proofs.Growth.{grown_on, grown_same}
 use Rattle.cf_session.proofs.Nesting.{pair_owned, pair_kinds, next_ruled, first_fails, next_fails, step_fails, nesting_step}
 use Rattle.cf_session.proofs.Gathering.{Gathered, gathered-none, gathered-as, next-formed, next-walked, next-placed, next-shallow, next-fails, next-one, next-atom, all-of, all-ruled, call-built, call-fails}
-use Rattle.cf_session.proofs.Listed.{nested_long, item_formed, item_walked, item_shallow, later, later_shallow, first_and_later}
+use Rattle.cf_session.proofs.Listed.{nested_long, item_formed, item_walked, item_shallow, later, later_shallow, first_and_later, next_of, none_left}
 use Rattle.cf_session.proofs.Turns.{begins, next, next_in_order, turned, counted, ends}
+use Rattle.cf_session.proofs.Kept.{position_value, number_value, no_memory}
+use Rattle.cf_session.proofs.KeptCalls.{KeptFront, front_none, front_function, front_atom, front_fails, front_call, front_answers, KeptSteps, steps_begin, begin_fails, step_fails as kept_fails, Step, steps_push, job_fails, steps_end}
 use Rattle.cf_session.proofs.session.Session.+evaluate.Goals.{evaluate_call-in-Expr+in-Ok, evaluate_call-in-Var+in-Ok-position, evaluate_call-in-Number}
 use Rattle.cf_session.proofs.session.Session.+evaluate.Goals as goal
 
@@ -30,6 +37,7 @@ evaluate_call-loop-place-init t c =
     record {
       gathered = gathered-none s c.args.head all c.args.self.now.pkg c.new-args.result.items c.new-args.ensures.items
           (walk-Call-arguments s c.args.head all (subst (λ (u : Tree). walk s u ≡ None) c.requires.is_call c.requires.walked)) (subst (λ (u : Tree). IsFormed u) c.requires.is_call c.requires.formed).1;
+      kept = front_none c.args.self.now c.args.head all c.new-args.result.items c.new-args.ensures.items c.requires.one;
       grows = grown_same c.args.self.now;
     }
 
@@ -62,13 +70,29 @@ evaluate_call-returns-in-Err-position-clause-fault t c =
 pub evaluate_call-loop-place-preserved : goal.evaluate_call-loop-place-preserved
 evaluate_call-loop-place-preserved t c =
     let s = state_of c.args.self.now in
+    let start = c.args.self.now in
     let all = arguments_of (tree_of c.args.expr.now) in
     let before = c.loop-place.self in
-    let h = c.loop-place.invariant.gathered in
-    let grown = c.loop-place.invariant.grows in
+    let front = c.loop-place.invariant.kept in
     let items = c.loop-place.args.items in
+    let place = c.loop-place.place in
     let now = c.match-argument.self in
     let v = c.match-argument.value in
+    let pushed : KeptFront start now c.args.head all (items ++ v ∷ []) (place + 1) = elim c.match-argument.branch [
+      | evaluate_call-in-Expr+in-Ok w ↦
+          front_function start before w.evaluate.new.self now c.args.head all items place (tree_of w.in-Expr.e.now) w.in-Ok.f v front w.in-Expr.ensures w.evaluate.ensures.grows w.in-Ok.ensures.kept
+          (subst (λ (r : Result Func StepFault). AnswersKept before w.evaluate.new.self (tree_of w.in-Expr.e.now) r) w.in-Ok.is w.evaluate.ensures.again) w.self-is w.value-is
+      | evaluate_call-in-Var+in-Ok-position w ↦
+          (let fits : SFits w128 w.in-Ok-position.i = search rules in
+          front_atom start before now c.args.head all items place (atom_of w.in-Var.var) (value.Position w.in-Ok-position.i) v front w.in-Var.ensures
+          (position_value (state_of before) (atom_of w.in-Var.var) w.in-Ok-position.i w.in-Ok-position.ensures.position.is_it) w.self-is (w.value-is ∙ ap value.Position (to_z-of_z w128 w.in-Ok-position.i fits)))
+      | evaluate_call-in-Number w ↦
+          (let fits : SFits w128 w.in-Number.n = search rules in
+          front_atom start before now c.args.head all items place (tree.Number w.in-Number.n) (value.Number w.in-Number.n) v front w.in-Number.ensures
+          (number_value (state_of before) (tree.Number w.in-Number.n) w.in-Number.n refl) w.self-is (w.value-is ∙ ap value.Number (to_z-of_z w128 w.in-Number.n fits)))
+    ] in
+    let h = c.loop-place.invariant.gathered in
+    let grown = c.loop-place.invariant.grows in
     let next : Gathered s c.args.head all now.pkg c.push.new.args.items (c.loop-place.place + 1) × Grows c.args.self.now now = elim c.match-argument.branch [
       | evaluate_call-in-Expr+in-Ok w ↦
           next-one s c.args.head all c.args.self.now before w.evaluate.new.self now items c.push.new.args.items c.loop-place.place (tree_of w.in-Expr.e.now) w.in-Ok.f v c.requires.one
@@ -82,7 +106,11 @@ evaluate_call-loop-place-preserved t c =
           next-atom s c.args.head all c.args.self.now before now items c.push.new.args.items c.loop-place.place (tree.Number w.in-Number.n) v (value.Number w.in-Number.n) c.requires.one
           h w.in-Number.ensures tt refl grown w.self-is c.in_ok-push.ensures (w.value-is ∙ ap value.Number (to_z-of_z w128 w.in-Number.n fits)))
     ] in
-    record { gathered = next.0; grows = next.1 }
+    record {
+      gathered = next.0;
+      kept = subst (λ (l : List Value). KeptFront c.args.self.now now c.args.head all l (place + 1)) (sym c.in_ok-push.ensures) pushed;
+      grows = next.1;
+    }
 
 pub evaluate_call-returns-in_err-push-clause-grows : goal.evaluate_call-returns-in_err-push-clause-grows
 evaluate_call-returns-in_err-push-clause-grows t c =
@@ -150,6 +178,10 @@ pub evaluate_nested-loop-e-init : goal.evaluate_nested-loop-e-init
 evaluate_nested-loop-e-init t c =
     record {
       nesting = begins (state_of c.args.self.now) c.args.head c.args.es.now c.index-es-0.result c.evaluate.new.self.pkg c.in-Ok.f c.requires.nested c.index-es-0.is (nested_long c.args.head c.args.es.now c.requires.nested c.requires.formed.0) c.requires.formed c.requires.walked c.in-Ok.ensures.built;
+      kept = (let split = ap listed (first_and_later c.args.es.now c.index-es-0.result c.index-es-0.is (nested_long c.args.head c.args.es.now c.requires.nested c.requires.formed.0)) in
+          subst (λ (all : Arguments). KeptSteps c.args.self.now c.evaluate.new.self c.args.head all c.in-Ok.f (listed (later c.args.es.now))) (sym split)
+          (steps_begin c.args.self.now c.evaluate.new.self c.args.head (tree_of c.index-es-0.result) (listed (later c.args.es.now)) c.in-Ok.f c.requires.nested c.in-Ok.ensures.kept
+          (subst (λ (r : Result Func StepFault). AnswersKept c.args.self.now c.evaluate.new.self (tree_of c.index-es-0.result) r) c.in-Ok.is c.evaluate.ensures.again)));
       grows = c.evaluate.ensures.grows;
     }
 
@@ -202,10 +234,26 @@ evaluate_nested-returns-in-Err-call-clause-grows t c =
 pub evaluate_nested-loop-e-preserved : goal.evaluate_nested-loop-e-preserved
 evaluate_nested-loop-e-preserved t c =
     let turn = (turned (state_of c.args.self.now) c.args.head (listed c.args.es.now) c.loop-e.self c.evaluate-in-loop-e.new.self c.loop-e.f c.in-Ok-evaluate.g (later c.args.es.now) c.loop-e.e-index c.e-item.result c.loop-e.invariant.grows.state c.loop-e.invariant.nesting c.e-item.is c.loop-e-test.true c.evaluate-in-loop-e.ensures.grows c.in-Ok-evaluate.ensures.built) in
+    let n : suc c.loop-e.e-index ≡ c.loop-e.e-index + 1 = omega arith in
+    let left = ap listed (next_of (later c.args.es.now) c.loop-e.e-index c.e-item.result c.e-item.is c.loop-e-test.true) in
+    let next_step : Step c.loop-e.self c.evaluate-in-loop-e.new.self c.call.new.self c.args.head c.loop-e.f c.in-Ok-evaluate.g c.call.result (tree_of c.e-item.result) =
+    record {
+      grown = c.evaluate-in-loop-e.ensures.grows;
+      kept = c.in-Ok-evaluate.ensures.kept;
+      again = subst (λ (r : Result Func StepFault). AnswersKept c.loop-e.self c.evaluate-in-loop-e.new.self (tree_of c.e-item.result) r) c.in-Ok-evaluate.is c.evaluate-in-loop-e.ensures.again;
+      grows = c.call.ensures.grows;
+      job = c.call.ensures.again;
+    } in
+    let next_kept : KeptSteps c.args.self.now c.call.new.self c.args.head (listed c.args.es.now) c.in-Ok-call.f (listed (drop (c.loop-e.e-index + 1) (later c.args.es.now))) =
+    subst (λ (k : ℕ). KeptSteps c.args.self.now c.call.new.self c.args.head (listed c.args.es.now) c.in-Ok-call.f (listed (drop k (later c.args.es.now)))) n
+    (steps_push c.args.self.now c.loop-e.self c.evaluate-in-loop-e.new.self c.call.new.self c.args.head (listed c.args.es.now) c.loop-e.f c.in-Ok-evaluate.g c.in-Ok-call.f c.call.result (tree_of c.e-item.result) (listed (drop (suc c.loop-e.e-index) (later c.args.es.now)))
+    (subst (λ (l : Arguments). KeptSteps c.args.self.now c.loop-e.self c.args.head (listed c.args.es.now) c.loop-e.f l) left c.loop-e.invariant.kept)
+    next_step c.in-Ok-call.is c.in-Ok-call.ensures.kept) in
     record {
       nesting = counted (state_of c.args.self.now) c.args.head (listed c.args.es.now) c.call.new.self.pkg c.in-Ok-call.f (later c.args.es.now) c.loop-e.e-index
           (nesting_step (state_of c.args.self.now) c.args.head (listed c.args.es.now) c.evaluate-in-loop-e.new.self.pkg c.call.new.self.pkg c.loop-e.f c.in-Ok-evaluate.g c.in-Ok-call.f (tree_of c.e-item.result) (listed (drop (suc c.loop-e.e-index) (later c.args.es.now))) turn.nesting turn.built
           c.in-Ok-call.ensures.calls);
+      kept = next_kept;
       grows = grown_on c.args.self.now c.loop-e.self c.call.new.self c.loop-e.invariant.grows (grown_on c.loop-e.self c.evaluate-in-loop-e.new.self c.call.new.self c.evaluate-in-loop-e.ensures.grows c.call.ensures.grows);
     }
 
@@ -216,3 +264,115 @@ evaluate_nested-returns-clause-built t c =
 pub evaluate_nested-returns-clause-grows : goal.evaluate_nested-returns-clause-grows
 evaluate_nested-returns-clause-grows t c =
     c.loop-e.invariant.grows
+
+pub evaluate_call-returns-in-Err-clause-again : goal.evaluate_call-returns-in-Err-clause-again
+evaluate_call-returns-in-Err-clause-again t c =
+    subst (λ (u : Tree). AnswersKept c.args.self.now c.evaluate.new.self u (Err c.in-Err.fault)) (sym c.requires.is_call)
+    (front_fails c.args.self.now c.loop-place.self c.evaluate.new.self c.args.head (arguments_of (tree_of c.args.expr.now)) c.loop-place.args.items c.loop-place.place (tree_of c.in-Expr.e.now) c.in-Err.fault
+    c.loop-place.invariant.kept c.in-Expr.ensures
+    (subst (λ (r : Result Func StepFault). AnswersKept c.loop-place.self c.evaluate.new.self (tree_of c.in-Expr.e.now) r) c.in-Err.is c.evaluate.ensures.again))
+
+pub evaluate_call-returns-in-Err-position-clause-again : goal.evaluate_call-returns-in-Err-position-clause-again
+evaluate_call-returns-in-Err-position-clause-again t c f k =
+    absurd (none-some _
+    (sym (next-placed (state_of c.args.self.now) c.args.head (arguments_of (tree_of c.args.expr.now)) c.loop-place.self.pkg c.loop-place.args.items c.loop-place.place (atom_of c.in-Var.var) c.loop-place.invariant.gathered c.in-Var.ensures)
+    ∙ ap (λ u. walk_atom u (atom_of c.in-Var.var)) (sym c.loop-place.invariant.grows.state) ∙ c.in-Err-position.ensures.refused))
+
+pub evaluate_call-returns-in_err-push-clause-again : goal.evaluate_call-returns-in_err-push-clause-again
+evaluate_call-returns-in_err-push-clause-again t c f k =
+    let start = c.args.self.now in
+    let all = arguments_of (tree_of c.args.expr.now) in
+    let before = c.loop-place.self in
+    let front = c.loop-place.invariant.kept in
+    let items = c.loop-place.args.items in
+    let place = c.loop-place.place in
+    let now = c.match-argument.self in
+    let v = c.match-argument.value in
+    let pushed : KeptFront start now c.args.head all (items ++ v ∷ []) (place + 1) = elim c.match-argument.branch [
+      | evaluate_call-in-Expr+in-Ok w ↦
+          front_function start before w.evaluate.new.self now c.args.head all items place (tree_of w.in-Expr.e.now) w.in-Ok.f v front w.in-Expr.ensures w.evaluate.ensures.grows w.in-Ok.ensures.kept
+          (subst (λ (r : Result Func StepFault). AnswersKept before w.evaluate.new.self (tree_of w.in-Expr.e.now) r) w.in-Ok.is w.evaluate.ensures.again) w.self-is w.value-is
+      | evaluate_call-in-Var+in-Ok-position w ↦
+          (let fits : SFits w128 w.in-Ok-position.i = search rules in
+          front_atom start before now c.args.head all items place (atom_of w.in-Var.var) (value.Position w.in-Ok-position.i) v front w.in-Var.ensures
+          (position_value (state_of before) (atom_of w.in-Var.var) w.in-Ok-position.i w.in-Ok-position.ensures.position.is_it) w.self-is (w.value-is ∙ ap value.Position (to_z-of_z w128 w.in-Ok-position.i fits)))
+      | evaluate_call-in-Number w ↦
+          (let fits : SFits w128 w.in-Number.n = search rules in
+          front_atom start before now c.args.head all items place (tree.Number w.in-Number.n) (value.Number w.in-Number.n) v front w.in-Number.ensures
+          (number_value (state_of before) (tree.Number w.in-Number.n) w.in-Number.n refl) w.self-is (w.value-is ∙ ap value.Number (to_z-of_z w128 w.in-Number.n fits)))
+    ] in
+    let same = (pushed.again f (subst (λ (u : Tree). IsKept c.args.self.now u f) c.requires.is_call k)).0 in
+    no_memory c.args.self.now now f c.from_residual.result same c.from_residual.ensures.1
+
+pub evaluate_call-returns-clause-kept : goal.evaluate_call-returns-clause-kept
+evaluate_call-returns-clause-kept t c =
+    let all = arguments_of (tree_of c.args.expr.now) in
+    IfOk-weaker c.call.result _ _
+    (λ f k. subst (λ (u : Tree). IsKept c.call.new.self u f) (sym c.requires.is_call)
+    (front_call c.args.self.now c.loop-place.self c.call.new.self c.args.head all c.deref.result.now c.loop-place.place f c.requires.one
+    (subst (λ (l : List Value). KeptFront c.args.self.now c.loop-place.self c.args.head all l c.loop-place.place) (sym c.deref.ensures.value) c.loop-place.invariant.kept)
+    (omega (arith, c.loop-place-test.false, c.loop-place.auto.place-end, c.arity-place-end.ensures)) c.call.ensures.grows k))
+    c.call.ensures.kept
+
+pub evaluate_call-returns-clause-again : goal.evaluate_call-returns-clause-again
+evaluate_call-returns-clause-again t c =
+    let all = arguments_of (tree_of c.args.expr.now) in
+    subst (λ (u : Tree). AnswersKept c.args.self.now c.call.new.self u c.call.result) (sym c.requires.is_call)
+    (front_answers c.args.self.now c.loop-place.self c.call.new.self c.args.head all c.deref.result.now c.loop-place.place c.call.result
+    (subst (λ (l : List Value). KeptFront c.args.self.now c.loop-place.self c.args.head all l c.loop-place.place) (sym c.deref.ensures.value) c.loop-place.invariant.kept)
+    (omega (arith, c.loop-place-test.false, c.loop-place.auto.place-end, c.arity-place-end.ensures)) c.call.ensures.again)
+
+pub evaluate_nested-returns-in-Err-clause-again : goal.evaluate_nested-returns-in-Err-clause-again
+evaluate_nested-returns-in-Err-clause-again t c =
+    let split = ap listed (first_and_later c.args.es.now c.index-es-0.result c.index-es-0.is (nested_long c.args.head c.args.es.now c.requires.nested c.requires.formed.0)) in
+    subst (λ (all : Arguments). AnswersKept c.args.self.now c.evaluate.new.self (Call c.args.head all) (Err c.in-Err.fault)) (sym split)
+    (begin_fails c.args.self.now c.evaluate.new.self c.args.head (tree_of c.index-es-0.result) (listed (later c.args.es.now)) c.in-Err.fault c.requires.nested
+    (subst (λ (r : Result Func StepFault). AnswersKept c.args.self.now c.evaluate.new.self (tree_of c.index-es-0.result) r) c.in-Err.is c.evaluate.ensures.again))
+
+pub evaluate_nested-returns-in-Err-evaluate-clause-again : goal.evaluate_nested-returns-in-Err-evaluate-clause-again
+evaluate_nested-returns-in-Err-evaluate-clause-again t c =
+    let left = ap listed (next_of (later c.args.es.now) c.loop-e.e-index c.e-item.result c.e-item.is c.loop-e-test.true) in
+    kept_fails c.args.self.now c.loop-e.self c.evaluate-in-loop-e.new.self c.args.head (listed c.args.es.now) c.loop-e.f (tree_of c.e-item.result) (listed (drop (suc c.loop-e.e-index) (later c.args.es.now))) c.in-Err-evaluate.fault
+    (subst (λ (l : Arguments). KeptSteps c.args.self.now c.loop-e.self c.args.head (listed c.args.es.now) c.loop-e.f l) left c.loop-e.invariant.kept)
+    (subst (λ (r : Result Func StepFault). AnswersKept c.loop-e.self c.evaluate-in-loop-e.new.self (tree_of c.e-item.result) r) c.in-Err-evaluate.is c.evaluate-in-loop-e.ensures.again)
+
+pub evaluate_nested-returns-in-Err-call-clause-again : goal.evaluate_nested-returns-in-Err-call-clause-again
+evaluate_nested-returns-in-Err-call-clause-again t c =
+    let next_step : Step c.loop-e.self c.evaluate-in-loop-e.new.self c.call.new.self c.args.head c.loop-e.f c.in-Ok-evaluate.g c.call.result (tree_of c.e-item.result) =
+    record {
+      grown = c.evaluate-in-loop-e.ensures.grows;
+      kept = c.in-Ok-evaluate.ensures.kept;
+      again = subst (λ (r : Result Func StepFault). AnswersKept c.loop-e.self c.evaluate-in-loop-e.new.self (tree_of c.e-item.result) r) c.in-Ok-evaluate.is c.evaluate-in-loop-e.ensures.again;
+      grows = c.call.ensures.grows;
+      job = c.call.ensures.again;
+    } in
+    let left = ap listed (next_of (later c.args.es.now) c.loop-e.e-index c.e-item.result c.e-item.is c.loop-e-test.true) in
+    job_fails c.args.self.now c.loop-e.self c.evaluate-in-loop-e.new.self c.call.new.self c.args.head (listed c.args.es.now) c.loop-e.f c.in-Ok-evaluate.g c.call.result c.in-Err-call.fault (tree_of c.e-item.result) (listed (drop (suc c.loop-e.e-index) (later c.args.es.now)))
+    (subst (λ (l : Arguments). KeptSteps c.args.self.now c.loop-e.self c.args.head (listed c.args.es.now) c.loop-e.f l) left c.loop-e.invariant.kept)
+    next_step c.in-Err-call.is
+
+pub evaluate_nested-returns-clause-kept : goal.evaluate_nested-returns-clause-kept
+evaluate_nested-returns-clause-kept t c =
+    let ended : KeptSteps c.args.self.now c.loop-e.self c.args.head (listed c.args.es.now) c.loop-e.f none =
+    subst (λ (l : Arguments). KeptSteps c.args.self.now c.loop-e.self c.args.head (listed c.args.es.now) c.loop-e.f l) (ap listed (none_left (later c.args.es.now) c.loop-e.e-index c.loop-e-test.false)) c.loop-e.invariant.kept in
+    (steps_end c.args.self.now c.loop-e.self c.args.head (listed c.args.es.now) c.loop-e.f ended).0
+
+pub evaluate_nested-returns-clause-again : goal.evaluate_nested-returns-clause-again
+evaluate_nested-returns-clause-again t c =
+    let ended : KeptSteps c.args.self.now c.loop-e.self c.args.head (listed c.args.es.now) c.loop-e.f none =
+    subst (λ (l : Arguments). KeptSteps c.args.self.now c.loop-e.self c.args.head (listed c.args.es.now) c.loop-e.f l) (ap listed (none_left (later c.args.es.now) c.loop-e.e-index c.loop-e-test.false)) c.loop-e.invariant.kept in
+    (steps_end c.args.self.now c.loop-e.self c.args.head (listed c.args.es.now) c.loop-e.f ended).1
+
+pub evaluate-returns-in-Num-clause-again : goal.evaluate-returns-in-Num-clause-again
+evaluate-returns-in-Num-clause-again t c =
+    let fits : SFits w128 c.in-Num.n = search rules in
+    subst (λ (u : Tree). AnswersKept c.args.self.now c.number.new.self u c.number.result) (ap Num (to_z-of_z w128 c.in-Num.n fits) ∙ sym c.in-Num.ensures) c.number.ensures.again
+
+pub evaluate-returns-in-At-clause-again : goal.evaluate-returns-in-At-clause-again
+evaluate-returns-in-At-clause-again t c =
+    let fits : SFits w128 c.in-At.position = search rules in
+    subst (λ (u : Tree). AnswersKept c.args.self.now c.bit.new.self u c.bit.result) (ap At (to_z-of_z w128 c.in-At.position fits) ∙ sym c.in-At.ensures) c.bit.ensures.again
+
+pub evaluate-returns-in-Nested-clause-again : goal.evaluate-returns-in-Nested-clause-again
+evaluate-returns-in-Nested-clause-again t c =
+    subst (λ (u : Tree). AnswersKept c.args.self.now c.evaluate_nested.new.self u c.evaluate_nested.result) (sym (c.in-Nested.ensures.0 ∙ ap (Call c.in-Nested.head) c.in-Nested.ensures.1)) c.evaluate_nested.ensures.again

@@ -1,5 +1,6 @@
-use Rattle.std.proofs.Common.{rules}
+use Rattle.std.proofs.Common.{refl, rules}
 use Rattle.cf_session.proofs.Growth.{held, grown_from, flat}
+use Rattle.cf_session.proofs.Kept.{again_ok, again_err}
 use Rattle.cf_session.proofs.session.Session.map.Goals as goal
 
 pub invariant_of-self : goal.invariant_of-self
@@ -22,3 +23,9 @@ returns-clause-values c = c.in_ok-r.ensures.outcome.answer.values
 
 pub returns-in_err-r-clause-fault : goal.returns-in_err-r-clause-fault
 returns-in_err-r-clause-fault c = (let fact = c.map_word.ensures.outcome.overflow in search (rules, fact))
+
+pub returns-in_err-r-clause-again : goal.returns-in_err-r-clause-again
+returns-in_err-r-clause-again c = again_err _ _ c.self.view_is _ _ _ _ _ c.in_err-r.was c.map_word.ensures.finished
+
+pub returns-clause-again : goal.returns-clause-again
+returns-clause-again c = again_ok _ _ c.self.view_is _ _ _ _ _ c.in_ok-r.was refl c.map_word.ensures.finished

@@ -1,4 +1,6 @@
+use Rattle.std.proofs.Common.{refl}
 use Rattle.cf_session.proofs.Growth.{held, grown_from, flat}
+use Rattle.cf_session.proofs.Kept.{again_ok, again_err}
 use Rattle.cf_session.proofs.session.Session.variable.Goals as goal
 
 pub invariant_of-self : goal.invariant_of-self
@@ -15,3 +17,9 @@ returns-clause-flat c = flat c.variable.new.self c.in_ok-f.f c.law.ensures.good 
 
 pub returns-clause-grows : goal.returns-clause-grows
 returns-clause-grows c = grown_from _ _ _ c.self.view_is c.self.invariant c.variable.ensures.kept
+
+pub returns-in_err-f-clause-again : goal.returns-in_err-f-clause-again
+returns-in_err-f-clause-again c = again_err _ _ c.self.view_is _ _ _ _ _ c.in_err-f.was c.variable.ensures.finished
+
+pub returns-clause-again : goal.returns-clause-again
+returns-clause-again c = again_ok _ _ c.self.view_is _ _ _ _ _ c.in_ok-f.was refl c.variable.ensures.finished
