@@ -28,7 +28,7 @@ use Rattle.cf_script.specs.Views.{tree_of, listed}
 use Rattle.cf_script.proofs.Rows.{fold_listed, ite_listed}
 use Rattle.cf_script.proofs.ListFacts.{HasEnds, more_behind}
 use Rattle.cf_script.specs.Readings.{IsReading, IsLeaf, SpellsNone}
-use Rattle.cf_script.specs.Arguments.{held, as_arguments, gathered, has_two, is_list, IsOf, OfKinds, HaveKinds, IsWord, IsArgument, IsCall, AreReadings, SpellsNoArgument, SpellsNoArguments}
+use Rattle.cf_script.specs.Arguments.{held, as_arguments, gathered, has_two, is_list, IsOf, OfKinds, HaveKinds, IsWord, IsArgument, IsCall, SpellsNoArgument, SpellsNoArguments}
 
 nil_leaf : (t : Tree) (rest : List (List ℕ)) → SpellsLeaf t [] rest → ⊥
 nil_leaf t rest h = let e = h.words in cc

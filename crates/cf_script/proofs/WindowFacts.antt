@@ -1,7 +1,7 @@
 -- A text parts at a byte of no run, and no word is longer than its text.
 use Rattle.std.proofs.Common.{ℕ, zero, suc, ◌≡◌, ◌<◌, ◌≤◌, ◌+◌, ◌||◌, Bool, true, false, not, cond, List, [], ◌∷◌, ◌++◌, take, drop, get_or, length, refl, ap, sym, ◌∙◌, arith}
 use Rattle.cf_reference.specs.Words.{words, is_blank, is_sign, runs, begins_run, lengthen}
-use Rattle.cf_script.specs.Answers.{is_wide, any_wide}
+use Rattle.cf_script.specs.Answers.{any_wide}
 use Rattle.cf_script.proofs.WordFacts.{by_run, run_parts}
 use Rattle.cf_script.proofs.WideFacts.{short-narrow}
 

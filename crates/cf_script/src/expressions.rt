@@ -77,6 +77,7 @@ fn leaf(word: &[u8]) -> Option<Expr<'_>>
 
 /// What a word before `(` calls.
 #[tactic(auto, unfolding(cf_reference::specs::Heads::head_of))]
+#[inline(always)]
 fn head_of(word: &[u8]) -> Option<Head>
     ensures { result ≡ head_of_word word.now }
 {

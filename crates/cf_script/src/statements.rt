@@ -222,7 +222,8 @@ fn is_wide(word: &[u8]) -> bool
     number(word) == Some(None) || place(word) == Some(None)
 }
 
-/// The text behind the last break among the first 38 bytes. The words before it are short, so their numbers fit.
+/// The text behind the last break among the first 38 bytes. The words before it are short, so
+/// their numbers fit.
 fn behind_break(text: &[u8]) -> Option<&[u8]>
     requires { 38 < length text.now }
     ensures narrow { IfSome result (λ r. any_wide (words text.now) ≡ any_wide (words r.now)) }

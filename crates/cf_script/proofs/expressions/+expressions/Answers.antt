@@ -1,4 +1,4 @@
-use Rattle.std.proofs.Common.{◌≡◌, ℕ, suc, ◌++◌, ◌∷◌, [], length, refl, sym, ap, subst, ◌∙◌, arith, rules, Err}
+use Rattle.std.proofs.Common.{◌≡◌, suc, ◌++◌, ◌∷◌, [], length, refl, sym, ap, subst, ◌∙◌, arith, rules, Err}
 use Rattle.cf_reference.specs.declared.grammar.Kind.{Kind}
 use Rattle.cf_reference.specs.declared.grammar.Kind.TheVariants.{Expression}
 use Rattle.cf_reference.specs.Heads.{kind_at, takes}
@@ -7,7 +7,7 @@ use Rattle.cf_reference.specs.Grammar.{lead}
 use Rattle.cf_script.specs.declared.expressions.Fault.TheVariants.{Malformed}
 use Rattle.cf_script.specs.Arguments.{gathered, as_arguments, IsArgument, SpellsNoArgument}
 use Rattle.cf_script.specs.declared.arguments.Argument.TheVariants as argument
-use Rattle.cf_script.proofs.CallFacts.{none-empty, is-call, none-inside, none-called, is-leaf, none-leaf, argument-read, argument-word, none-argument, of-kinds, too-many, handed-on, if-ok, listed-read, listed-none, pushed-listed, as_many}
+use Rattle.cf_script.proofs.CallFacts.{none-empty, is-call, none-inside, none-called, is-leaf, none-leaf, argument-read, argument-word, none-argument, too-many, handed-on, if-ok, listed-read, listed-none, pushed-listed, as_many}
 use Rattle.cf_script.proofs.ListFacts.{front-none, ends-none, front-more, ends-more, front-whole, no-next, no-end, other-number, pushed-length}
 use Rattle.cf_script.proofs.expressions.+expressions.Goals as goal
 
