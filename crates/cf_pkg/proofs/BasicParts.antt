@@ -1,5 +1,5 @@
-use Rattle.std.proofs.Common.{◌≡◌, ℕ, zero, suc, ◌<◌, ◌≤◌, ◌+◌, ◌-◌, ◌%◌, ◌*◌, ◌^◌, List, [], ◌∷◌, ◌++◌, map, length, get_or, Some, Result, Ok, Err, IfOk, refl, sym, ◌∙◌, ap, subst, arith, inl, inr}
-use Rattle.std.specs.List.{slice_get, Contains}
+use Rattle.std.proofs.Common.{◌≡◌, ℕ, zero, suc, ◌<◌, ◌≤◌, ◌+◌, ◌-◌, ◌%◌, ◌*◌, ◌^◌, List, [], ◌∷◌, ◌++◌, map, length, get_or, Result, Ok, Err, IfOk, refl, sym, ◌∙◌, ap, subst, arith, inl, inr}
+use Rattle.std.specs.List.{Contains}
 use Rattle.std.proofs.lemmas.Bool.{cases_lt}
 use Rattle.std.proofs.lemmas.Nat.{pow_pos, mod-mul-add}
 use Rattle.std.proofs.lemmas.List.{length-map, get_or-map}
@@ -8,7 +8,7 @@ use Rattle.cf_model.specs.Assignments.{all_bits}
 use Rattle.cf_model.specs.Renumbering.{width, AllDiffer, IsApart, IsCanon}
 use Rattle.cf_model.specs.FlatFunctions.{points}
 use Rattle.cf_model.specs.Patterns.{Pattern, sub}
-use Rattle.cf_model.specs.Diagrams.{Levels, count, node, connection_at, pattern, exits, IsGood, Extends}
+use Rattle.cf_model.specs.Diagrams.{Levels, count, pattern, exits, IsGood, Extends}
 use Rattle.cf_model.proofs.AssignmentLaws.{length-all_bits}
 use Rattle.cf_model.proofs.FlatFunctionLaws.{points-is}
 use Rattle.cf_model.proofs.RenumberingLaws.{numbers_from, grown_canon}

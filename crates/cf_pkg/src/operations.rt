@@ -1,6 +1,6 @@
 //! Operations on functions, point by point. A job that was finished is looked up.
 
-ghost use Rattle.std.specs.Prelude.{◌≡◌, ◌≤◌, ◌+◌, IfOk};
+ghost use Rattle.std.specs.Prelude.{◌≤◌, ◌+◌, IfOk};
 ghost use Rattle.cf_ops.specs.Operations.{Answers1, Answers2, Answers3};
 ghost use Rattle.cf_pkg.specs.Tasks as task;
 ghost use Rattle.cf_pkg.specs.Packages.{OwnsFunction, IsRemembered, Keeps};

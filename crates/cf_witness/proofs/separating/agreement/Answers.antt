@@ -1,4 +1,4 @@
-use Rattle.std.proofs.Common.{Err, ap, ◌∙◌, subst, List, Bool}
+use Rattle.std.proofs.Common.{Err, ap, ◌∙◌, subst}
 use Rattle.cf_model.specs.Assignments.{bits}
 use Rattle.cf_model.specs.declared.terms.Term.{Term}
 use Rattle.cf_pkg.specs.Jobs.{HasValues, IsLeastWithout, apply_value}

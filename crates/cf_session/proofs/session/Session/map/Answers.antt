@@ -1,4 +1,6 @@
-use Rattle.std.proofs.Common.{refl, rules}
+use Rattle.std.proofs.Common.{refl, subst, rules}
+use Rattle.cf_ops.specs.Operations.{of_one}
+use Rattle.cf_pkg.specs.Jobs.{HasValues, map_value}
 use Rattle.cf_session.proofs.Growth.{held, grown_from, flat}
 use Rattle.cf_session.proofs.Kept.{again_ok, again_err}
 use Rattle.cf_session.proofs.session.Session.map.Goals as goal
@@ -19,7 +21,8 @@ pub returns-clause-grows : goal.returns-clause-grows
 returns-clause-grows c = grown_from _ _ _ c.self.view_is c.self.invariant c.map_word.ensures.kept
 
 pub returns-clause-values : goal.returns-clause-values
-returns-clause-values c = c.in_ok-r.ensures.outcome.answer.values
+returns-clause-values c =
+    subst (λ h. HasValues c.map_word.new.self c.in_ok-r.r c.args.f.head.level (map_value h.pkg (of_one c.args.word) c.args.f)) c.self.view_is c.in_ok-r.ensures.outcome.answer.values
 
 pub returns-in_err-r-clause-fault : goal.returns-in_err-r-clause-fault
 returns-in_err-r-clause-fault c = (let fact = c.map_word.ensures.outcome.overflow in search (rules, fact))
