@@ -1,5 +1,5 @@
 -- Expressions that are kept, and some that aren't.
-use Rattle.std.proofs.Common.{◌≡◌, ℕ, ℤ, pos, List, [], ◌∷◌, refl, arith}
+use Rattle.std.proofs.Common.{ℕ, ℤ, pos, List, [], ◌∷◌, refl, arith}
 use Rattle.cf_model.specs.declared.terms.Word1.TheVariants.{Not}
 use Rattle.cf_model.specs.declared.terms.Word2.TheVariants.{Minus, And}
 use Rattle.cf_ops.specs.Operations.{of_one, of_two}
