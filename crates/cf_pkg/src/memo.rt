@@ -181,6 +181,7 @@ impl Memo {
     }
 
     /// The function of a finished job.
+    #[inline(always)]
     pub fn get(&self, key: JobKey) -> Option<Func>
         requires { IsTold self.now.trees key }
         ensures { MatchOption result
@@ -218,6 +219,7 @@ impl Pkg {
     }
 
     /// The function of a finished job.
+    #[inline(always)]
     pub(crate) fn finished(&self, key: JobKey) -> Option<Func>
         requires { IsTold self.now.memo.trees key }
         ensures { MatchOption result

@@ -47,6 +47,7 @@ fn tree_of_three(alloc: Global) -> Result<Term, NoMemory>
 }
 
 impl Pkg {
+    #[inline(never)]
     #[tactic(auto, using(cf_ops::proofs::TermFacts::operation_laws))]
     fn map_with<F: Fn(i128) -> Option<i128>>(
         &mut self,
@@ -66,6 +67,7 @@ impl Pkg {
         self.map1(&op, f)
     }
 
+    #[inline(never)]
     #[tactic(auto, using(cf_ops::proofs::TermFacts::operation_laws))]
     fn apply_with<F: Fn(i128, i128) -> Option<i128>, L: Ledger>(
         &mut self,

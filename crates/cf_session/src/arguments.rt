@@ -28,6 +28,7 @@ pub(crate) enum Given<'e, 'a> {
 }
 
 /// The form of an expression.
+#[inline(always)]
 pub(crate) fn form_of<'e, 'a>(expr: &'e Expr<'a>) -> Form<'e, 'a>
     ensures { IsForm result (tree_of expr.now) }
 {
@@ -43,6 +44,7 @@ pub(crate) fn form_of<'e, 'a>(expr: &'e Expr<'a>) -> Form<'e, 'a>
 }
 
 /// How many arguments a call has.
+#[inline(always)]
 pub(crate) fn arity(expr: &Expr) -> usize
     ensures { result ≡ count (arguments_of (tree_of expr.now)) }
 {
@@ -55,6 +57,7 @@ pub(crate) fn arity(expr: &Expr) -> usize
 }
 
 /// The argument of a call at a place.
+#[inline(always)]
 pub(crate) fn argument<'e, 'a>(expr: &'e Expr<'a>, place: usize) -> Given<'e, 'a>
     requires { place < count (arguments_of (tree_of expr.now)) }
     ensures { StandsAt place (arguments_of (tree_of expr.now)) result }

@@ -60,6 +60,7 @@ impl Session {
     }
 
     /// The function that is v everywhere.
+    #[inline(always)]
     fn constant(&mut self, level: u8, v: i128) -> Result<Func, StepFault>
         requires level { level ≤ 7 }
         ensures means { IfOk result (λ f. Means self.new.pkg f (tabulated level (λ bits. v))) }
@@ -75,6 +76,7 @@ impl Session {
     }
 
     /// The function of the bit at a position, counted from the first.
+    #[inline(always)]
     fn variable(&mut self, level: u8, i: u8) -> Result<Func, StepFault>
         requires level { level ≤ 7 }
         requires variable { i < 2 ^ level }
@@ -91,6 +93,7 @@ impl Session {
     }
 
     /// The word's operation on f's values.
+    #[inline(always)]
     fn map(&mut self, word: Word1, f: Func) -> Result<Func, StepFault>
         requires owned { OwnsFunction self.old.pkg f }
         ensures values { IfOk result (λ r. HasValues self.new.pkg r f.head.level (map_value self.old.pkg (of_one word) f)) }
@@ -106,6 +109,7 @@ impl Session {
     }
 
     /// The word's operation on the values of f and g.
+    #[inline(always)]
     fn apply(&mut self, word: Word2, f: Func, g: Func) -> Result<Func, StepFault>
         requires level { AreLevel self.old.pkg f g }
         ensures values { IfOk result (λ r. HasValues self.new.pkg r f.head.level (apply_value self.old.pkg (of_two word) f g)) }
@@ -121,6 +125,7 @@ impl Session {
     }
 
     /// g's value where f's isn't 0, else h's.
+    #[inline(always)]
     fn choose(&mut self, f: Func, g: Func, h: Func) -> Result<Func, StepFault>
         requires level { AreLevel self.old.pkg f g }
         requires third_level { AreLevel self.old.pkg f h }
@@ -137,6 +142,7 @@ impl Session {
     }
 
     /// The function of a number.
+    #[inline(always)]
     fn number(&mut self, n: i128) -> Result<Func, StepFault>
         ensures built { IfOk result (λ f. Builds (state_of self.old) (Num n) self.new.pkg f) }
         ensures fault { IfErr result (IsFaultOf (state_of self.old) (Num n)) }
@@ -149,6 +155,7 @@ impl Session {
     }
 
     /// The function of the bit at a position.
+    #[inline(always)]
     fn bit(&mut self, position: i128) -> Result<Func, StepFault>
         requires walked { walk (state_of self.old) (At position) ≡ None }
         ensures built { IfOk result (λ f. Builds (state_of self.old) (At position) self.new.pkg f) }
@@ -162,6 +169,7 @@ impl Session {
     }
 
     /// The function that a name stands for.
+    #[inline(always)]
     fn named(&self, name: &[u8]) -> Result<Func, StepFault>
         requires walked { walk (state_of self.now) (Named name.now) ≡ None }
         ensures built { IfOk result (λ f. Builds (state_of self.now) (Named name.now) self.now.pkg f) }
@@ -264,6 +272,7 @@ impl Session {
 
     /// A call of functions, positions and numbers that are in order, of two functions where calls
     /// nest: the one place where a head is given its operation.
+    #[inline(always)]
     fn call(&mut self, head: Head, args: &[Value]) -> Result<Func, StepFault>
         requires owned { AreOwned self.old.pkg args.now }
         requires kinds { AreOf (signature head).first (signature head).further args.now }
@@ -297,6 +306,7 @@ impl Session {
 }
 
 /// The word's operation on the values of f and g. The views of groupings aren't counted.
+#[inline(always)]
 fn apply_uncounted<L: Ledger>(
     pkg: &mut Pkg,
     word: Word2,
@@ -319,6 +329,7 @@ fn apply_uncounted<L: Ledger>(
 }
 
 /// g's value where f's isn't 0, else h's. The views of groupings aren't counted.
+#[inline(always)]
 fn choose_uncounted<L: Ledger>(
     pkg: &mut Pkg,
     f: Func,

@@ -24,6 +24,7 @@ pub(crate) fn push(args: &mut Vec<Value>, value: Value) -> Result<(), NoMemory>
     Ok(())
 }
 
+#[inline(always)]
 pub(crate) fn two_numbers(args: &[Value]) -> (i128, i128)
     requires { AreOf (Kind.Natural ∷ Kind.Number ∷ []) None args.now }
     ensures { args.now ≡ Value.Number result.0 ∷ Value.Number result.1 ∷ [] }
@@ -34,6 +35,7 @@ pub(crate) fn two_numbers(args: &[Value]) -> (i128, i128)
     }
 }
 
+#[inline(always)]
 pub(crate) fn one_function(args: &[Value]) -> Func
     requires { AreOf (Kind.Expression ∷ []) None args.now }
     ensures { args.now ≡ Value.Function result ∷ [] }
@@ -44,6 +46,7 @@ pub(crate) fn one_function(args: &[Value]) -> Func
     }
 }
 
+#[inline(always)]
 pub(crate) fn two_functions(args: &[Value]) -> (Func, Func)
     requires { AreOf (Kind.Expression ∷ Kind.Expression ∷ []) None args.now }
     ensures { args.now ≡ Value.Function result.0 ∷ Value.Function result.1 ∷ [] }
@@ -54,6 +57,7 @@ pub(crate) fn two_functions(args: &[Value]) -> (Func, Func)
     }
 }
 
+#[inline(always)]
 pub(crate) fn three_functions(args: &[Value]) -> (Func, Func, Func)
     requires { AreOf (Kind.Expression ∷ Kind.Expression ∷ Kind.Expression ∷ []) None args.now }
     ensures { args.now ≡ Value.Function result.0 ∷ Value.Function result.1 ∷ Value.Function result.2 ∷ [] }

@@ -34,6 +34,7 @@ pub(crate) struct Walked {
 
 impl Walked {
     /// No argument.
+    #[inline(always)]
     fn none() -> Walked
         ensures { Shows result [] }
     {
@@ -46,6 +47,7 @@ impl Walked {
     }
 
     /// A function of a level comes behind them.
+    #[inline(always)]
     fn function(self, level: u8) -> Walked
         requires low { level ≤ 7 }
         ensures { (f : FlatFunction) → f.level ≡ level → Notes self result (Function f) }
@@ -58,6 +60,7 @@ impl Walked {
     }
 
     /// A position comes behind them.
+    #[inline(always)]
     fn position(self, i: i128) -> Walked
         ensures { Notes self result (Position i) }
     {
@@ -73,6 +76,7 @@ impl Walked {
     }
 
     /// A number comes behind them.
+    #[inline(always)]
     fn number(self, n: i128) -> Walked
         ensures { Notes self result (Number n) }
     {
@@ -96,6 +100,7 @@ impl Walked {
     }
 
     /// The level of the call, or the first rule that it breaks.
+    #[inline(always)]
     fn ruled(self) -> Result<u8, Refusal>
         requires low { unwrap_or self.common 0 ≤ 7 }
         ensures level { IfOk result (IsRuled self) }
@@ -118,6 +123,7 @@ impl Walked {
 
 impl Session {
     /// The level of the variables, 0 where none is set.
+    #[inline(always)]
     pub(crate) fn level_of_variables(&self) -> u8
         ensures level { result ≡ level_in (state_of self.now) }
         ensures low { result ≤ 7 }
@@ -143,6 +149,7 @@ impl Session {
     }
 
     /// The level of the bit at a position.
+    #[inline(always)]
     fn walk_at(&self, i: i128) -> Result<u8, Refusal>
         ensures level { IfOk result (HasLevel (state_of self.now) (At i)) }
         ensures low { IfOk result (λ l. l ≤ 7) }
@@ -157,6 +164,7 @@ impl Session {
     }
 
     /// The level of a name's function.
+    #[inline(always)]
     fn walk_named(&self, name: &[u8]) -> Result<u8, Refusal>
         ensures level { IfOk result (HasLevel (state_of self.now) (Named name.now)) }
         ensures low { IfOk result (λ l. l ≤ 7) }
