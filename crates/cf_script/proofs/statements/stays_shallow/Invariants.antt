@@ -1,4 +1,4 @@
-use Rattle.std.proofs.Common.{◌≡◌, ◌≤◌, ◌+◌, length}
+use Rattle.std.proofs.Common.{◌≤◌, ◌+◌, length}
 use Rattle.cf_reference.specs.LineRefusals.{IsDeep}
 use Rattle.cf_script.proofs.DepthFacts.{IsDeepBehind}
 use Rattle.cf_script.proofs.statements.stays_shallow.Given as goal
