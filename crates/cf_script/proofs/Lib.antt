@@ -6,4 +6,5 @@ pub mod ListFacts
 pub mod CallFacts
 pub mod WideFacts
 pub mod WindowFacts
+pub mod DepthFacts
 pub mod StatementFacts

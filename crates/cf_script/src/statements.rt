@@ -1,6 +1,6 @@
 //! The statements of a line.
 
-ghost use Rattle.std.specs.Prelude.{◌≡◌, ◌<◌, ℕ, List, [], ◌∷◌, length, IfOk, IfSome, IfNone, IsErrOf, IsTrue, ◌↔◌};
+ghost use Rattle.std.specs.Prelude.{◌≡◌, ◌<◌, ◌≤◌, ◌==◌, ℕ, List, [], ◌∷◌, length, count_by, IfOk, IfSome, IfNone, IsErrOf, IsTrue, ◌↔◌};
 ghost use Rattle.cf_reference.specs.declared.grammar.Keyword.{Keyword};
 ghost use Rattle.cf_reference.specs.Words.{words, words_of_line};
 ghost use Rattle.cf_reference.specs.Trees.{Formed};
@@ -48,6 +48,49 @@ fn is_deep(text: &[u8]) -> bool
     if text.len() <= 64 {
         return false;
     }
+    if stays_shallow(text) {
+        return false;
+    }
+    has_deep_front(text)
+}
+
+/// Whether no block opens so many parentheses that it could be too deep, whatever it closes.
+fn stays_shallow(text: &[u8]) -> bool
+    ensures { IsTrue result → IsDeep text.now → ⊥ }
+{
+    let mut opened = 0usize;
+    let mut closed = 0usize;
+    let mut rest = text;
+    while !rest.is_empty() {
+        let (block, more) = rest.split_at(rest.len().min(128));
+        opened += usize::from(count(b'(', block));
+        if opened > 64 + closed {
+            return false;
+        }
+        closed += usize::from(count(b')', block));
+        rest = more;
+    }
+    true
+}
+
+/// How often a byte stands in a block.
+fn count(sign: u8, block: &[u8]) -> u8
+    requires { length block.now ≤ 128 }
+    ensures { result ≡ count_by (λ b. b == sign) block.now }
+{
+    let mut found = 0u8;
+    for b in block {
+        if *b == sign {
+            found += 1;
+        }
+    }
+    found
+}
+
+/// Whether some front of a text opens more than 64 parentheses that it doesn't close.
+fn has_deep_front(text: &[u8]) -> bool
+    ensures { IsTrue result ↔ IsDeep text.now }
+{
     let mut opened = 0usize;
     let mut closed = 0usize;
     for b in text {

@@ -1,6 +1,6 @@
 use Rattle.std.proofs.Common.{ℕ, ◌≡◌, ◌+◌, ◌≤◌, ◌==◌, take}
 use Rattle.std.specs.List.{count_by}
-use Rattle.cf_script.proofs.statements.is_deep.Given as goal
+use Rattle.cf_script.proofs.statements.has_deep_front.Given as goal
 
 abbrev pub invariant-loop-b : goal.invariant-loop-b
 invariant-loop-b l = record {
