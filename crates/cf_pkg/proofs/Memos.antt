@@ -3,7 +3,7 @@ use Rattle.std.specs.List.{All, slice_get}
 use Rattle.std.specs.Map.{lookup}
 use Rattle.std.specs.Prelude.{Contains}
 use Rattle.std.proofs.lemmas.List.{map_push, length_push, get_or_append_left}
-use Rattle.std.proofs.lemmas.List.Elements.{All-push, Contains-append_left, Contains-get_or, Contains-push, Contains-push_cases}
+use Rattle.std.proofs.lemmas.List.Elements.{All-nil, All-push, Contains-append_left, Contains-get_or, Contains-push, Contains-push_cases}
 use Rattle.std.proofs.lemmas.Map.Entries.{place_from_lookup, lookup_head, lookup_tail}
 use Rattle.std.proofs.lemmas.Option.{same_Some, slice_get-get_or, slice_get_within, get_or_from_slice_get}
 use Rattle.cf_model.specs.Renumbering.{AllDiffer, IsNew}
@@ -18,7 +18,7 @@ use Rattle.cf_pkg.specs.declared.memo.JobKey.{JobKey}
 use Rattle.cf_pkg.specs.declared.memo.JobKey.TheVariants as key
 use Rattle.cf_pkg.specs.Tasks.{Task}
 use Rattle.cf_pkg.specs.Tasks as task
-use Rattle.cf_pkg.specs.Memos.{Remembered, tree_at, task_at, entry_of, finished, IsFinished, IsUndone, IsAnswer, IsWordless, IsPlaced, IsOperation, IsTold, HasKey, HasTree, IsMemo, EntersTree, with_entry}
+use Rattle.cf_pkg.specs.Memos.{Remembered, no_job, tree_at, task_at, entry_of, finished, IsFinished, IsUndone, IsAnswer, IsWordless, IsPlaced, IsOperation, IsTold, HasKey, HasTree, IsMemo, EntersTree, with_entry}
 use Rattle.cf_pkg.specs.declared.jobs.Job.{Job}
 use Rattle.cf_pkg.specs.Jobs.{task_of}
 use Rattle.cf_pkg.proofs.Keys.{same, same_key, same_again}
@@ -121,7 +121,7 @@ looked_up (x ∷ es) k f h e = by (same k x.0) refl (looked_up es k f)
       | inr q ↦ rest q (sym (lookup_tail (same k) x es w) ∙ e)
     ]
 
-member : {A : Type 0} (xs : List A) (i : ℕ) (x : A) → slice_get xs i ≡ Some x → Contains xs x
+pub member : {A : Type 0} (xs : List A) (i : ℕ) (x : A) → slice_get xs i ≡ Some x → Contains xs x
 member {A} xs i x h = subst (λ (y : A). Contains xs y) (get_or_from_slice_get xs i x x h) (Contains-get_or xs i x (slice_get_within xs i x h))
 
 task_in : (a b : Task) (f g : Func) → ◌≡◌ {A = Task × Func} (a, f) (b, g) → (a ≡ b) × (f ≡ g)
@@ -302,3 +302,21 @@ pub job_tree : (inside m : Remembered) → IsMemo inside → inside ≡ m → (j
 job_tree inside m is shown job arm e r h =
     let key = has_key m (subst IsMemo shown is) (task_of arm) r (subst (λ (j : Job). IsFinished m (task_of j) r) e h) in
     has_its_tree m.trees (task_of arm) key.0 (from_job m.trees (task_of arm) key)
+
+-- what an entry has is the job's function
+pub entry-answers : (m : Remembered) → IsMemo m → (k : JobKey) (f : Func) → Contains m.entries (k, f)
+    → IsAnswer m (task_at m.trees k) f
+entry-answers m is k f h =
+    let there = mapped (entry_of m.trees) m.entries (k, f) h in
+    record { there = there; alone = λ g i. is.alone (task_at m.trees k) g f i there }
+
+pub no-job-memo : IsMemo no_job
+no-job-memo = record {
+  differ = λ i j x h k. absurd (none-some' x h);
+  wordless = All-nil IsWordless;
+  told = λ e h. absurd (none e h);
+  alone = λ t f g h k. absurd (none (t, f) h);
+}
+  where
+    none-some' : (x : Term) → ◌≡◌ {A = Option Term} None (Some x) → ⊥
+    none-some' x e = cc

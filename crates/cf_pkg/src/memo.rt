@@ -1,6 +1,6 @@
 //! The finished jobs that a package remembers, so that none of them is done twice.
 
-ghost use Rattle.std.specs.Prelude.{◌≡◌, [], IfOk, OnOk, OnErr, MatchOption};
+ghost use Rattle.std.specs.Prelude.{IfSome, ◌≡◌, [], IfOk, OnOk, OnErr, MatchOption};
 ghost use Rattle.cf_pkg.specs.Memos.{no_job, task_at, finished, IsFinished, IsWordless, IsOperation, IsTold, IsKeyOf, HasTree, IsAnswer, IsUndone, EntersTree, with_entry};
 ghost use Rattle.cf_pkg.specs.Packages.{Keeps, IsRemembered};
 ghost use Rattle.cf_pkg.specs.Jobs.{task_of, Finishes};
@@ -80,11 +80,44 @@ fn word_of(tree: &Term) -> Option<Operation>
     }
 }
 
-/// Finished jobs by their keys, and the trees of operations that no word names, each once.
+/// How many slots a memo has.
+const SLOTS: usize = 4096;
+
+/// A number of a function, for a slot. Two may have the same one.
+#[inline(always)]
+fn spread(f: Func) -> u64 {
+    f.head
+        .at
+        .wrapping_add(f.vals.at.wrapping_shl(32))
+        .wrapping_mul(0x9e37_79b9_7f4a_7c15)
+}
+
+/// The slot of a job. Two may have the same one.
+#[inline(always)]
+fn slot_of(key: &JobKey) -> usize {
+    let number = match *key {
+        JobKey::Alone(Alone::Variable { level, position }) => {
+            return level as usize * 128 + position as usize;
+        }
+        JobKey::Alone(_) => 0,
+        JobKey::OfOne(_, f) => spread(f),
+        JobKey::OfTwo(_, f, g) => spread(f).wrapping_mul(31).wrapping_add(spread(g)),
+        JobKey::OfThree(_, f, g, h) => {
+            let both = spread(f).wrapping_mul(31).wrapping_add(spread(g));
+            both.wrapping_mul(31).wrapping_add(spread(h))
+        }
+    };
+    (number >> 52) as usize
+}
+
+/// Finished jobs by their keys, and the trees of operations that no word names, each once. A slot
+/// has the place of the last job that was entered of those that share it, where a job is looked for
+/// first.
 #[derive(Drop)]
 pub(crate) struct Memo {
     trees: Vec<Term>,
     jobs: IndexMap<JobKey, Func>,
+    slots: Vec<usize>,
 }
 
 impl Model for Memo {
@@ -103,13 +136,14 @@ impl Model for Memo {
 
 impl Memo {
     /// A memo of no job.
-    pub fn new(alloc: Global) -> Memo
-        ensures { result ≡ no_job }
+    pub fn new(alloc: Global) -> Result<Memo, NoMemory>
+        ensures { IfOk result (λ memo. memo ≡ no_job) }
     {
-        Memo {
+        Ok(Memo {
             trees: Vec::new(alloc),
             jobs: IndexMap::new(alloc),
-        }
+            slots: vec![in alloc; 0; SLOTS]?,
+        })
     }
 
     /// The operation of a tree, which takes memory only where no word and no earlier tree is equal
@@ -188,7 +222,20 @@ impl Memo {
             (IsUndone self.now (task_at self.now.trees key))
             (IsAnswer self.now (task_at self.now.trees key)) }
     {
+        if let Some(f) = self.in_slot(&key) {
+            return Some(f);
+        }
         self.jobs.get(&key).copied()
+    }
+
+    /// The function of a finished job, if its slot has it.
+    #[inline(always)]
+    fn in_slot(&self, key: &JobKey) -> Option<Func>
+        ensures { IfSome result (IsAnswer self.now (task_at self.now.trees key.now)) }
+    {
+        let place = *self.slots.get(slot_of(key))?;
+        let (known, f) = self.jobs.get_index(place)?;
+        if known == key { Some(*f) } else { None }
     }
 
     /// Enters the function of a job that wasn't finished.
@@ -198,8 +245,19 @@ impl Memo {
         ensures entered { OnOk result (self.new ≡ with_entry self.old key f) }
         ensures no_memory { OnErr result (self.new ≡ self.old) }
     {
+        self.take_slot(&key);
         self.jobs.insert(key, f)?;
         Ok(())
+    }
+
+    /// Gives the slot of a job the place of the job to come.
+    fn take_slot(&mut self, key: &JobKey)
+        ensures { self.new ≡ self.old }
+    {
+        let place = self.jobs.len();
+        if let Some(slot) = self.slots.get_mut(slot_of(key)) {
+            *slot = place;
+        }
     }
 }
 

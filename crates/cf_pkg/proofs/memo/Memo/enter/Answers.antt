@@ -10,11 +10,15 @@ use Rattle.cf_pkg.proofs.memo.Memo.enter.Goals as goal
 abbrev inside : goal.In_ok-insert → Remembered
 inside c = record { trees = c.self.inside.trees.items; entries = c.self.inside.jobs.entries }
 
+-- the memo inside is the one that was handed
+view : (c : goal.In_ok-insert) → inside c ≡ c.args.self.now
+view c = c.self.view_is ∙ c.take_slot.ensures
+
 told : (c : goal.In_ok-insert) → IsTold (inside c).trees c.args.key
-told c = subst (λ (m : Remembered). IsTold m.trees c.args.key) (sym c.self.view_is) c.requires.told
+told c = subst (λ (m : Remembered). IsTold m.trees c.args.key) (sym (view c)) c.requires.told
 
 undone : (c : goal.In_ok-insert) → IsUndone (inside c) (task_at (inside c).trees c.args.key)
-undone c = subst (λ (m : Remembered). IsUndone m (task_at m.trees c.args.key)) (sym c.self.view_is) c.requires.undone
+undone c = subst (λ (m : Remembered). IsUndone m (task_at m.trees c.args.key)) (sym (view c)) c.requires.undone
 
 added : (c : goal.In_ok-insert) → c.insert.new.self.entries ≡ (inside c).entries ++ (c.args.key, c.args.f) ∷ []
 added c = c.in_ok-insert.ensures.entries ∙ insert_entry-new same c.self.inside.jobs c.args.key c.args.f (not_there (inside c) c.self.invariant c.args.key (told c) (undone c))
@@ -25,4 +29,4 @@ invariant_of-self-2 c =
 
 pub returns-clause-entered : goal.returns-clause-entered
 returns-clause-entered c =
-    ap (λ (es : List (JobKey × Func)). record { trees = (inside c).trees; entries = es }) (added c) ∙ ap (λ (m : Remembered). with_entry m c.args.key c.args.f) c.self.view_is
+    ap (λ (es : List (JobKey × Func)). record { trees = (inside c).trees; entries = es }) (added c) ∙ ap (λ (m : Remembered). with_entry m c.args.key c.args.f) (view c)
