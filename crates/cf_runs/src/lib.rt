@@ -1,7 +1,10 @@
-//! Tests that cross crates: streams whose calls fail, the adapters, and the calls that no run makes.
+//! Tests that cross crates: streams whose calls fail, the adapters, a session that builds twice, and the calls
+//! that no run makes.
 #![tactic(auto)]
 
 #[cfg(test)]
 mod calls;
+#[cfg(test)]
+mod sessions;
 #[cfg(test)]
 mod streams;
