@@ -134,7 +134,7 @@ pub trait Recipe {
             (job_level job.now) (job_value (package_of table.old values.now no_job) job.now)) }
         ensures restricted { IsRestriction job.now → IfOk result (λ r.
             AddsOnly table.old.levels table.new.levels
-                (job_parts (package_of table.old values.now no_job) job.now)) }
+            (job_parts (package_of table.old values.now no_job) job.now)) }
         ensures good { IsGood table.new.levels }
         ensures kept { Extends table.old.levels table.new.levels }
         ensures tuples { Lengthens table.old.tuples table.new.tuples };
