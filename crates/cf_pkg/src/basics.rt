@@ -151,7 +151,8 @@ impl Pkg {
     fn constant_over(&mut self, level: u8, below: Gid) -> Result<Gid, NoMemory>
         requires above { 1 ≤ level }
         requires level { level ≤ 7 }
-        requires below { Stands self.old.groupings.levels below (level - 1) (constant_pattern (level - 1)) }
+        requires below { Stands self.old.groupings.levels below
+            (level - 1) (constant_pattern (level - 1)) }
         ensures stands { IfOk result (λ g.
             Stands self.new.groupings.levels g level (constant_pattern level)) }
         ensures added { IfOk result (AddsPartsOf self.old.groupings self.new.groupings) }
@@ -168,7 +169,8 @@ impl Pkg {
         requires above { 1 ≤ level }
         requires level { level ≤ 7 }
         requires variable { i < 2 ^ level }
-        requires below { AreBasics self.old.groupings.levels below (level - 1) (i % 2 ^ (level - 1)) }
+        requires below { AreBasics self.old.groupings.levels below
+            (level - 1) (i % 2 ^ (level - 1)) }
         ensures stands { IfOk result (λ g.
             Stands self.new.groupings.levels g level (variable_pattern level i)) }
         ensures added { IfOk result (AddsPartsOf self.old.groupings self.new.groupings) }

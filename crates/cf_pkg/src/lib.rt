@@ -120,7 +120,8 @@ impl Pkg {
         ensures good { IsGood self.now.groupings.levels }
         ensures level { f.head.level ≤ 7 }
         ensures once { AllDiffer self.now.lists }
-        ensures function { IsFunction self.now.groupings.levels f.head.level f.head.at (values_of self.now f) }
+        ensures function { IsFunction self.now.groupings.levels
+            f.head.level f.head.at (values_of self.now f) }
         ensures one { (g : Func) → OwnsFunction self.now g →
             meaning self.now g ≡ meaning self.now f → g ≡ f }
     {

@@ -80,7 +80,8 @@ impl Pkg {
         requires third_level { AreLevel self.old f h }
         ensures outcome { IsOutcome self.old self.new (task.Ternary op.now.tree f g h) result }
         ensures remembered { IfOk result (IsRemembered self.new (task.Ternary op.now.tree f g h)) }
-        ensures finished { AnswersFinished self.old self.new (task.Ternary op.now.tree f g h) result }
+        ensures finished { AnswersFinished self.old self.new
+            (task.Ternary op.now.tree f g h) result }
         ensures kept { Keeps self.old self.new }
     {
         let tree = &op.tree;

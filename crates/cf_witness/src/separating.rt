@@ -75,7 +75,7 @@ pub fn separate(
         IsLeast f.head.level (Differ pkg.old f g) (bits s.0))) }
     ensures values { IfOk result (λ o. IfSome o (λ s.
         (value_at (meaning pkg.old f) (bits s.0) ≡ Some s.1)
-            × (value_at (meaning pkg.old g) (bits s.0) ≡ Some s.2))) }
+        × (value_at (meaning pkg.old g) (bits s.0) ≡ Some s.2))) }
     ensures none { (result ≡ Ok None) ↔ AgreeEverywhere pkg.old f g }
     ensures unchanged { AgreeEverywhere pkg.old f g → pkg.new ≡ pkg.old }
     ensures kept { Keeps pkg.old pkg.new }
