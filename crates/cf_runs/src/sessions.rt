@@ -7,7 +7,8 @@ use cf_text::Text;
 use cf_top::{Status, run};
 use std::test::Fail;
 
-const LET: &[u8] = b"let y = xor(and(@0, @64, not(@127)), ite(plus(@1, @2), times(3, @65), neg(@3)))\n";
+const LET: &[u8] =
+    b"let y = xor(and(@0, @64, not(@127)), ite(plus(@1, @2), times(3, @65), neg(@3)))\n";
 
 /// How many groupings each level has.
 fn counts(session: &Session) -> [u64; 8] {
