@@ -24,18 +24,23 @@ sum_by-shifted f g j h (x ∷ xs) = let e = sum_by-cons f (j ∷ x) (map (λ is.
 sum_by-branches : (sub : ℕ → List (List ℕ)) (f : List ℕ → ℕ) (g : ℕ → List ℕ → ℕ) (j : ℕ)
     (cs : List ℕ)
     → ((i c : ℕ) → slice_get cs i ≡ Some c → (is : List ℕ) → f ((j + i) ∷ is) ≡ g c is)
-        → sum_by f (branches sub j cs) ≡ sum_by (λ c. sum_by (g c) (sub c)) cs
+    → sum_by f (branches sub j cs) ≡ sum_by (λ c. sum_by (g c) (sub c)) cs
 sum_by-branches sub f g j [] h = refl
 sum_by-branches sub f g j (c ∷ cs) h =
     let z : j + 0 ≡ j = omega arith in
     let first = sum_by-shifted f (g c) j (λ is. ap (λ n. f (n ∷ is)) (sym z) ∙ h 0 c refl is)
-        (sub c) in
+    (sub c) in
     let rest = sum_by-branches sub f g (suc j) cs
-        (λ i d e is. let y : suc j + i ≡ j + suc i = omega arith in ap (λ n. f (n ∷ is)) y ∙ h
-        (suc i) d e is) in
+    (λ i d e is. let y : suc j + i ≡ j + suc i = omega arith in ap (λ n. f (n ∷ is)) y ∙ h
+    (suc i) d e is) in
     let split = sum_by-cons (λ c. sum_by (g c) (sub c)) c cs in
-    omega (arith, split, sum_by-append f (map (λ is. j ∷ is) (sub c)) (branches sub (suc j) cs),
-        first, rest)
+    omega (
+      arith,
+      split,
+      sum_by-append f (map (λ is. j ∷ is) (sub c)) (branches sub (suc j) cs),
+      first,
+      rest,
+    )
 
 sum_by_zero : (xs : List ℕ) → sum_by (λ x. 0) xs ≡ 0
 sum_by_zero [] = refl
@@ -43,8 +48,13 @@ sum_by_zero (x ∷ xs) = let e = sum_by-cons (λ (x : ℕ). 0) x xs in omega (ar
 
 sum_by-agree : (f g : ℕ → ℕ) → ((x : ℕ) → f x ≡ g x) → (xs : List ℕ) → sum_by f xs ≡ sum_by g xs
 sum_by-agree f g h [] = refl
-sum_by-agree f g h (x ∷ xs) = omega (arith, sum_by-cons f x xs, sum_by-cons g x xs, h x,
-    sum_by-agree f g h xs)
+sum_by-agree f g h (x ∷ xs) = omega (
+  arith,
+  sum_by-cons f x xs,
+  sum_by-cons g x xs,
+  h x,
+  sum_by-agree f g h xs,
+)
 
 -- the weight of all chains, by recursion
 pub total_is : (calls : List (List ℕ)) (weights : List ℕ) (k m : ℕ)
@@ -54,15 +64,15 @@ total_is calls weights zero m = let e = sum_by-cons (weight_at calls weights m) 
     (arith, e)
 total_is calls weights (suc k) m =
     let b = sum_by-branches (chains calls k) (weight_at calls weights m) (weight_at calls weights) 0
-        (row calls m)
-      (λ i c e is. let z : 0 + i ≡ i = omega arith in
-        ap (λ n. weight_at calls weights m (n ∷ is)) z ∙ ap
-            (λ o. option_map_or (slice_index weights) (option_and_then (λ c. end_of calls c is) o)
-            0) e) in
+    (row calls m)
+    (λ i c e is. let z : 0 + i ≡ i = omega arith in
+    ap (λ n. weight_at calls weights m (n ∷ is)) z ∙ ap
+    (λ o. option_map_or (slice_index weights) (option_and_then (λ c. end_of calls c is) o)
+    0) e) in
     let s = sum_by-agree (total calls weights k) (size calls weights k) (total_is calls weights k)
-        (row calls m) in
+    (row calls m) in
     let e = sum_by-cons (weight_at calls weights m) [] (branches (chains calls k) 0 (row calls m))
-        in
+    in
     omega (arith, e, b, s)
 
 -- a chain of a callee goes on from its caller
@@ -80,7 +90,7 @@ chain_uncons : (calls : List (List ℕ)) (m i : ℕ) (is : List ℕ) → IsChain
     → (c : ℕ) × (slice_get (row calls m) i ≡ Some c) × IsChain calls c is
 chain_uncons calls m i is (e, at) =
     let t = then_cases (λ c. end_of calls c is) (slice_get (row calls m) i) e at in
-        (t.0, t.1, (e, t.2))
+    (t.0, t.1, (e, t.2))
 
 tallest_most : (heights : List ℕ) (cs : List ℕ) (i c : ℕ) → slice_get cs i ≡ Some c
     → slice_index heights c + 1 ≤ tallest heights cs
@@ -94,10 +104,12 @@ tallest_reached : (heights : List ℕ) (cs : List ℕ)
     (slice_index heights c + 1 ≡ tallest heights cs))
 tallest_reached heights [] = inl refl
 tallest_reached heights (a ∷ cs) = elim (cases_lt (slice_index heights a) (tallest heights cs)) [
-    inl l ↦ elim (tallest_reached heights cs) [
-        inl z ↦ absurd (omega arith)
-      | inr at ↦ inr (suc at.0, at.1, at.2, omega (arith, at.3)) ]
-  | inr g ↦ inr (0, a, refl, omega arith) ]
+  | inl l ↦ elim (tallest_reached heights cs) [
+    | inl z ↦ absurd (omega arith)
+    | inr at ↦ inr (suc at.0, at.1, at.2, omega (arith, at.3))
+  ]
+  | inr g ↦ inr (0, a, refl, omega arith)
+]
 
 -- the longest chain of a model is one longer than those of the models that it calls
 pub longest_of : (calls : List (List ℕ)) (m : ℕ) (heights : List ℕ)
@@ -106,10 +118,11 @@ pub longest_of : (calls : List (List ℕ)) (m : ℕ) (heights : List ℕ)
 longest_of calls m heights below = record {
   most = most;
   reached = elim (tallest_reached heights (row calls m)) [
-      inl z ↦ ([], (m, refl), sym z)
+    | inl z ↦ ([], (m, refl), sym z)
     | inr at ↦
         let r = (below at.0 at.1 at.2).reached in
-        (at.0 ∷ r.0, chain_cons calls m at.0 at.1 r.0 at.2 r.1, omega (arith, at.3, r.2)) ];
+        (at.0 ∷ r.0, chain_cons calls m at.0 at.1 r.0 at.2 r.1, omega (arith, at.3, r.2))
+  ];
 } where
   most : (is : List ℕ) → IsChain calls m is → length is ≤ tallest heights (row calls m)
   most [] chain = omega arith
@@ -129,14 +142,14 @@ sum_min n w f g (c ∷ cs) h =
 -- what a model weighs with all that it calls, from what these weigh
 pub size_of : (calls : List (List ℕ)) (weights heights counts : List ℕ) (n m : ℕ)
     → ((i c b : ℕ) → slice_get (row calls m) i ≡ Some c → slice_index heights c ≤ b
-        → slice_index counts c ≡ min n (size calls weights b c))
+    → slice_index counts c ≡ min n (size calls weights b c))
     → (b : ℕ) → tallest heights (row calls m) ≤ b
-        → min n (slice_index weights m + sum_by (slice_index counts) (row calls m)) ≡ min n
-        (size calls weights b m)
+    → min n (slice_index weights m + sum_by (slice_index counts) (row calls m)) ≡ min n
+    (size calls weights b m)
 unfolding size
 size_of calls weights heights counts n m below zero h =
     let none = sum_min n (slice_index weights m) (slice_index counts) (λ c. 0) (row calls m)
-        (λ i c e. let t = tallest_most heights (row calls m) i c e in absurd (omega arith)) in
+    (λ i c e. let t = tallest_most heights (row calls m) i c e in absurd (omega arith)) in
     let z = sum_by_zero (row calls m) in omega (arith, none, z)
 size_of calls weights heights counts n m below (suc b) h =
     sum_min n (slice_index weights m) (slice_index counts) (size calls weights b) (row calls m)
@@ -145,8 +158,12 @@ size_of calls weights heights counts n m below (suc b) h =
 -- lists of chains
 contains_map : (f : List ℕ → List ℕ) (xs : List (List ℕ)) (x : List ℕ) → Contains xs x
     → Contains (map f xs) (f x)
-contains_map f xs x (k, h, e) = (k, omega (arith, length-map xs f), get_or-map f xs k x (f x) h ∙ ap
-    f e)
+contains_map f xs x (k, h, e) = (
+  k,
+  omega (arith, length-map xs f),
+  get_or-map f xs k x (f x) h ∙ ap
+      f e,
+)
 
 contains_branch : (sub : ℕ → List (List ℕ)) (j : ℕ) (cs : List ℕ) (i c : ℕ) (is : List ℕ)
     → slice_get cs i ≡ Some c → Contains (sub c) is → Contains (branches sub j cs) ((j + i) ∷ is)
@@ -155,12 +172,12 @@ contains_branch sub j (a ∷ cs) zero c is h k =
     let e : c ≡ a = cc in let z : j ≡ j + 0 = omega arith in
     subst (λ n. Contains (branches sub j (a ∷ cs)) (n ∷ is)) z
     (Contains-append_left (map (λ is. j ∷ is) (sub a)) (branches sub (suc j) cs) (j ∷ is)
-        (contains_map (λ is. j ∷ is) (sub a) is (subst (λ b. Contains (sub b) is) e k)))
+    (contains_map (λ is. j ∷ is) (sub a) is (subst (λ b. Contains (sub b) is) e k)))
 contains_branch sub j (a ∷ cs) (suc i) c is h k =
     let z : suc j + i ≡ j + suc i = omega arith in
     Contains-append_right (map (λ is. j ∷ is) (sub a)) (branches sub (suc j) cs) ((j + suc i) ∷ is)
     (subst (λ n. Contains (branches sub (suc j) cs) (n ∷ is)) z
-        (contains_branch sub (suc j) cs i c is h k))
+    (contains_branch sub (suc j) cs i c is h k))
 
 contains_cons : {A : Type 0} (x : A) (xs : List A) (y : A) → Contains xs y → Contains (x ∷ xs) y
 contains_cons x xs y (k, h, e) = (suc k, omega (arith, h), e)
@@ -177,8 +194,8 @@ each_listed calls (suc k) m (i ∷ is) chain h =
     let z : 0 + i ≡ i = omega arith in
     contains_cons [] (branches (chains calls k) 0 (row calls m)) (i ∷ is)
     (subst (λ n. Contains (branches (chains calls k) 0 (row calls m)) (n ∷ is)) z
-      (contains_branch (chains calls k) 0 (row calls m) i u.0 is u.1
-          (each_listed calls k u.0 is u.2 (omega arith))))
+    (contains_branch (chains calls k) 0 (row calls m) i u.0 is u.1
+    (each_listed calls k u.0 is u.2 (omega arith))))
 
 contains_cases : {A : Type 0} (x : A) (xs : List A) (y : A) → Contains (x ∷ xs) y
     → (x ≡ y) ⊎ Contains xs y
@@ -189,39 +206,43 @@ map_cases : (f : List ℕ → List ℕ) (xs : List (List ℕ)) (y : List ℕ) �
     → (x : List ℕ) × (y ≡ f x) × Contains xs x
 map_cases f [] y (k, h, e) = absurd (omega (arith, h))
 map_cases f (x ∷ xs) y c = elim (contains_cases (f x) (map f xs) y c) [
-    inl e ↦ (x, sym e, (0, omega arith, refl))
-  | inr d ↦ let m = map_cases f xs y d in (m.0, m.1, contains_cons x xs m.0 m.2) ]
+  | inl e ↦ (x, sym e, (0, omega arith, refl))
+  | inr d ↦ let m = map_cases f xs y d in (m.0, m.1, contains_cons x xs m.0 m.2)
+]
 
 -- what stands in the branches begins with a call of the row
 branch_cases : (sub : ℕ → List (List ℕ)) (j : ℕ) (cs : List ℕ) (is : List ℕ)
     → Contains (branches sub j cs) is
     → (i : ℕ) × (c : ℕ) × (js : List ℕ) × (is ≡ (j + i) ∷ js) × (slice_get cs i ≡ Some c) × Contains
-        (sub c) js
+    (sub c) js
 branch_cases sub j [] is (k, h, e) = absurd (omega (arith, h))
 branch_cases sub j (c ∷ cs) is k = elim (Contains-append_cases (map (λ is. j ∷ is) (sub c))
     (branches sub (suc j) cs) is k) [
-    inl a ↦
-      let m = map_cases (λ is. j ∷ is) (sub c) is a in let z : j ≡ j + 0 = omega arith in
-      (0, c, m.0, m.1 ∙ ap (λ n. n ∷ m.0) z, refl, m.2)
-  | inr b ↦
-      let r = branch_cases sub (suc j) cs is b in let z : suc j + r.0 ≡ j + suc r.0 = omega arith in
-      (suc r.0, r.1, r.2, r.3 ∙ ap (λ n. n ∷ r.2) z, r.4, r.5) ]
+      | inl a ↦
+          let m = map_cases (λ is. j ∷ is) (sub c) is a in let z : j ≡ j + 0 = omega arith in
+          (0, c, m.0, m.1 ∙ ap (λ n. n ∷ m.0) z, refl, m.2)
+      | inr b ↦
+          let r = branch_cases sub (suc j) cs is b in let z : suc j + r.0 ≡ j + suc r.0 = omega arith in
+          (suc r.0, r.1, r.2, r.3 ∙ ap (λ n. n ∷ r.2) z, r.4, r.5)
+    ]
 
 only_listed : (calls : List (List ℕ)) (k m : ℕ) (is : List ℕ) → Contains (chains calls k m) is
     → IsChain calls m is × (length is ≤ k)
 unfolding chains
 only_listed calls zero m is c = elim (contains_cases [] [] is c) [
-    inl e ↦ subst (λ is. IsChain calls m is × (length is ≤ 0)) e ((m, refl), omega arith)
-  | inr d ↦ absurd (omega (arith, d.1)) ]
+  | inl e ↦ subst (λ is. IsChain calls m is × (length is ≤ 0)) e ((m, refl), omega arith)
+  | inr d ↦ absurd (omega (arith, d.1))
+]
 only_listed calls (suc k) m is c = elim (contains_cases []
     (branches (chains calls k) 0 (row calls m)) is c) [
-    inl e ↦ subst (λ is. IsChain calls m is × (length is ≤ suc k)) e ((m, refl), omega arith)
-  | inr d ↦
-      let b = branch_cases (chains calls k) 0 (row calls m) is d in
-      let below = only_listed calls k b.1 b.2 b.5 in
-      let z : 0 + b.0 ≡ b.0 = omega arith in
-      subst (λ is. IsChain calls m is × (length is ≤ suc k)) (sym (b.3 ∙ ap (λ n. n ∷ b.2) z))
-          (chain_cons calls m b.0 b.1 b.2 b.4 below.0, omega (arith, below.1)) ]
+      | inl e ↦ subst (λ is. IsChain calls m is × (length is ≤ suc k)) e ((m, refl), omega arith)
+      | inr d ↦
+          let b = branch_cases (chains calls k) 0 (row calls m) is d in
+          let below = only_listed calls k b.1 b.2 b.5 in
+          let z : 0 + b.0 ≡ b.0 = omega arith in
+          subst (λ is. IsChain calls m is × (length is ≤ suc k)) (sym (b.3 ∙ ap (λ n. n ∷ b.2) z))
+          (chain_cons calls m b.0 b.1 b.2 b.4 below.0, omega (arith, below.1))
+    ]
 
 -- no list stands twice
 Differ : List (List ℕ) → Type 0
@@ -232,17 +253,20 @@ differ_append : (xs ys : List (List ℕ)) → Differ xs → Differ ys
     → ((x : List ℕ) → Contains xs x → Contains ys x → ⊥) → Differ (xs ++ ys)
 unfolding Differ
 differ_append [] ys a b apart = b
-differ_append (x ∷ xs) ys a b apart =
-    ((λ c. elim (Contains-append_cases xs ys x c)
-        [ inl l ↦ a.0 l | inr r ↦ apart x (0, omega arith, refl) r ]),
-     differ_append xs ys a.1 b (λ y c d. apart y (contains_cons x xs y c) d))
+differ_append (x ∷ xs) ys a b apart = (
+  (λ c. elim (Contains-append_cases xs ys x c)
+      [ inl l ↦ a.0 l | inr r ↦ apart x (0, omega arith, refl) r ]),
+  differ_append xs ys a.1 b (λ y c d. apart y (contains_cons x xs y c) d),
+)
 
 differ_map : (j : ℕ) (xs : List (List ℕ)) → Differ xs → Differ (map (λ is. j ∷ is) xs)
 unfolding Differ
 differ_map j [] d = tt
-differ_map j (x ∷ xs) d =
-    ((λ c. let m = map_cases (λ is. j ∷ is) xs (j ∷ x) c in let e : x ≡ m.0 = cc (m.1) in d.0
-        (subst (Contains xs) (sym e) m.2)), differ_map j xs d.1)
+differ_map j (x ∷ xs) d = (
+  (λ c. let m = map_cases (λ is. j ∷ is) xs (j ∷ x) c in let e : x ≡ m.0 = cc (m.1) in d.0
+      (subst (Contains xs) (sym e) m.2)),
+  differ_map j xs d.1,
+)
 
 differ_branches : (sub : ℕ → List (List ℕ)) → ((c : ℕ) → Differ (sub c)) → (j : ℕ) (cs : List ℕ)
     → Differ (branches sub j cs)
@@ -250,18 +274,19 @@ unfolding Differ
 differ_branches sub all j [] = tt
 differ_branches sub all j (c ∷ cs) =
     differ_append (map (λ is. j ∷ is) (sub c)) (branches sub (suc j) cs)
-        (differ_map j (sub c) (all c)) (differ_branches sub all (suc j) cs)
+    (differ_map j (sub c) (all c)) (differ_branches sub all (suc j) cs)
     (λ is a b.
-      let m = map_cases (λ is. j ∷ is) (sub c) is a in let r = branch_cases sub (suc j) cs is b in
-      let e : j ≡ suc j + r.0 = cc (m.1, r.3) in omega (arith, e))
+    let m = map_cases (λ is. j ∷ is) (sub c) is a in let r = branch_cases sub (suc j) cs is b in
+    let e : j ≡ suc j + r.0 = cc (m.1, r.3) in omega (arith, e))
 
 differ_chains : (calls : List (List ℕ)) (k m : ℕ) → Differ (chains calls k m)
 unfolding Differ chains
 differ_chains calls zero m = ((λ c. omega (arith, c.1)), tt)
-differ_chains calls (suc k) m =
-    ((λ c. let b = branch_cases (chains calls k) 0 (row calls m) [] c in let no : ⊥ = cc (b.3) in
-        no),
-     differ_branches (chains calls k) (differ_chains calls k) 0 (row calls m))
+differ_chains calls (suc k) m = (
+  (λ c. let b = branch_cases (chains calls k) 0 (row calls m) [] c in let no : ⊥ = cc (b.3) in
+      no),
+  differ_branches (chains calls k) (differ_chains calls k) 0 (row calls m),
+)
 
 once_of : (xs : List (List ℕ)) → Differ xs → (i j : ℕ) (x : List ℕ) → slice_get xs i ≡ Some x
     → slice_get xs j ≡ Some x → i ≡ j
@@ -270,12 +295,16 @@ once_of [] d i j x a b = absurd (cc)
 once_of (y ∷ ys) d zero zero x a b = refl
 once_of (y ∷ ys) d zero (suc j) x a b =
     let e : x ≡ y = cc in absurd (d.0 (subst (Contains ys) e
-        (j, slice_get_within ys j x b, get_or_from_slice_get ys j x x b)))
+    (j, slice_get_within ys j x b, get_or_from_slice_get ys j x x b)))
 once_of (y ∷ ys) d (suc i) zero x a b =
     let e : x ≡ y = cc in absurd (d.0 (subst (Contains ys) e
-        (i, slice_get_within ys i x a, get_or_from_slice_get ys i x x a)))
+    (i, slice_get_within ys i x a, get_or_from_slice_get ys i x x a)))
 once_of (y ∷ ys) d (suc i) (suc j) x a b = ap suc (once_of ys d.1 i j x a b)
 
 pub lists_chains : (calls : List (List ℕ)) (k m : ℕ) → ListsChains calls k m
-lists_chains calls k m = record { each = each_listed calls k m; only = only_listed calls k m; once =
-    once_of (chains calls k m) (differ_chains calls k m) }
+lists_chains calls k m = record {
+  each = each_listed calls k m;
+  only = only_listed calls k m;
+  once =
+      once_of (chains calls k m) (differ_chains calls k m);
+}

@@ -32,10 +32,10 @@ end_of-push rows m [] j = last (slice_get (row rows m) j) where
   last (Some c) = refl
 end_of-push rows m (i ∷ is) j =
     then_agree (λ c. end_of rows c (is ++ j ∷ []))
-        (λ c. option_and_then (λ c. slice_get (row rows c) j) (end_of rows c is))
-        (λ c. end_of-push rows c is j) (slice_get (row rows m) i)
+    (λ c. option_and_then (λ c. slice_get (row rows c) j) (end_of rows c is))
+    (λ c. end_of-push rows c is j) (slice_get (row rows m) i)
     ∙ sym (then_assoc (λ c. end_of rows c is) (λ c. slice_get (row rows c) j)
-        (slice_get (row rows m) i))
+    (slice_get (row rows m) i))
 
 map_then : (blocks : List Block) (o : Option Call)
     → option_and_then (slice_get blocks) (option_map (λ (c : Call). c.block) o) ≡ option_and_then
@@ -48,22 +48,23 @@ step : (blocks : List Block) (j e : ℕ) → option_and_then (λ (b : Block). op
     (λ (c : Call). slice_get blocks c.block) (slice_get b.calls j)) (slice_get blocks e)
     ≡ option_and_then (slice_get blocks) (slice_get (row (calls blocks) e) j)
 step blocks j e = elim (cases_lt e (length blocks)) [
-    inl l ↦
+  | inl l ↦
       let b = get_or blocks e no_block in
       let r : row (calls blocks) e ≡ called b.calls = get_or-map (λ (b : Block). called b.calls)
-          blocks e no_block [] l in
+      blocks e no_block [] l in
       ap (option_and_then (λ (b : Block). option_and_then (λ (c : Call). slice_get blocks c.block)
-          (slice_get b.calls j))) (slice_get-get_or blocks e no_block l)
+      (slice_get b.calls j))) (slice_get-get_or blocks e no_block l)
       ∙ sym (map_then blocks (slice_get b.calls j))
       ∙ ap (option_and_then (slice_get blocks))
-          (sym (slice_get-map (λ (c : Call). c.block) b.calls j))
+      (sym (slice_get-map (λ (c : Call). c.block) b.calls j))
       ∙ ap (λ cs. option_and_then (slice_get blocks) (slice_get cs j)) (sym r)
   | inr g ↦
       let r : row (calls blocks) e ≡ [] = get_or_past (calls blocks) e []
-          (omega (arith, g, length-map blocks (λ (b : Block). called b.calls))) in
+      (omega (arith, g, length-map blocks (λ (b : Block). called b.calls))) in
       ap (option_and_then (λ (b : Block). option_and_then (λ (c : Call). slice_get blocks c.block)
-          (slice_get b.calls j))) (slice_get_past blocks e g)
-      ∙ ap (λ cs. option_and_then (slice_get blocks) (slice_get cs j)) (sym r) ]
+      (slice_get b.calls j))) (slice_get_past blocks e g)
+      ∙ ap (λ cs. option_and_then (slice_get blocks) (slice_get cs j)) (sym r)
+]
 
 -- a path with its last call first, and the chain with its first call first
 block_end : (blocks : List Block) (p : List ℕ)
@@ -71,19 +72,19 @@ block_end : (blocks : List Block) (p : List ℕ)
 block_end blocks [] = refl
 block_end blocks (j ∷ p) =
     ap (option_and_then (λ (b : Block). option_and_then (λ (c : Call). slice_get blocks c.block)
-        (slice_get b.calls j))) (block_end blocks p)
+    (slice_get b.calls j))) (block_end blocks p)
     ∙ then_assoc (slice_get blocks) (λ (b : Block). option_and_then
-        (λ (c : Call). slice_get blocks c.block) (slice_get b.calls j))
-        (end_of (calls blocks) 0 (reverse p))
+    (λ (c : Call). slice_get blocks c.block) (slice_get b.calls j))
+    (end_of (calls blocks) 0 (reverse p))
     ∙ then_agree (λ e. option_and_then (λ (b : Block). option_and_then
-        (λ (c : Call). slice_get blocks c.block) (slice_get b.calls j)) (slice_get blocks e))
-        (λ e. option_and_then (slice_get blocks) (slice_get (row (calls blocks) e) j))
-        (step blocks j) (end_of (calls blocks) 0 (reverse p))
+    (λ (c : Call). slice_get blocks c.block) (slice_get b.calls j)) (slice_get blocks e))
+    (λ e. option_and_then (slice_get blocks) (slice_get (row (calls blocks) e) j))
+    (step blocks j) (end_of (calls blocks) 0 (reverse p))
     ∙ sym (then_assoc (λ e. slice_get (row (calls blocks) e) j) (slice_get blocks)
-        (end_of (calls blocks) 0 (reverse p)))
+    (end_of (calls blocks) 0 (reverse p)))
     ∙ ap (option_and_then (slice_get blocks)) (sym (end_of-push (calls blocks) 0 (reverse p) j))
     ∙ ap (λ is. option_and_then (slice_get blocks) (end_of (calls blocks) 0 is))
-        (sym (reverse-append (j ∷ []) p))
+    (sym (reverse-append (j ∷ []) p))
 
 then_cases : {A B : Type 0} (f : A → Option B) (o : Option A) (b : B) → option_and_then f o ≡ Some b
     → (a : A) × (o ≡ Some a) × (f a ≡ Some b)
@@ -95,7 +96,7 @@ pub deep_of : (blocks : List Block) (h : ℕ) → IsLongest (calls blocks) 0 h �
     → IsAtMostDeep blocks 64
 deep_of blocks h longest low p b e =
     let c = then_cases (slice_get blocks) (end_of (calls blocks) 0 (reverse p)) b
-        (sym (block_end blocks p) ∙ e) in
+    (sym (block_end blocks p) ∙ e) in
     omega (arith, longest.most (reverse p) (c.0, c.1), length-reverse p)
 
 -- the end of a chain is a block
@@ -104,13 +105,18 @@ end_within : (blocks : List Block) → All (IsBlock blocks) blocks → (m : ℕ)
 end_within blocks ok m h [] e at = let z : m ≡ e = cc (at) in omega (arith, z, h)
 end_within blocks ok m h (i ∷ is) e at =
     let c = then_cases (λ c. end_of (calls blocks) c is) (slice_get (row (calls blocks) m) i) e at
-        in
+    in
     let b = get_or blocks m no_block in
     let r : row (calls blocks) m ≡ called b.calls = get_or-map (λ (b : Block). called b.calls)
-        blocks m no_block [] h in
+    blocks m no_block [] h in
     let l = slice_get_within (row (calls blocks) m) i c.0 c.1 in
-    let k : i < length b.calls = omega (arith, l, ap length r, length-map b.calls
-        (λ (c : Call). c.block)) in
+    let k : i < length b.calls = omega (
+      arith,
+      l,
+      ap length r,
+      length-map b.calls
+          (λ (c : Call). c.block),
+    ) in
     let blank : Call = record { block = 0; actuals = [] } in
     let w = ((ok m no_block h).calls i blank k).there in
     let v = get_or_from_slice_get (row (calls blocks) m) i c.0 0 c.1 in
@@ -138,12 +144,17 @@ pub calls_below : (blocks : List Block) → All (IsBlock blocks) blocks
     → All (All (λ t. t < length (calls blocks))) (calls blocks)
 calls_below blocks ok k d h i e l =
     let w : k < length blocks = omega (arith, h, length-map blocks (λ (b : Block). called b.calls))
-        in
+    in
     let b = get_or blocks k no_block in
     let r : get_or (calls blocks) k d ≡ called b.calls = get_or-map (λ (b : Block). called b.calls)
-        blocks k no_block d w in
-    let n : i < length b.calls = omega (arith, l, ap length r, length-map b.calls
-        (λ (c : Call). c.block)) in
+    blocks k no_block d w in
+    let n : i < length b.calls = omega (
+      arith,
+      l,
+      ap length r,
+      length-map b.calls
+          (λ (c : Call). c.block),
+    ) in
     let blank : Call = record { block = 0; actuals = [] } in
     let t = ((ok k no_block w).calls i blank n).there in
     let u = ap (λ xs. get_or xs i e) r in
@@ -159,11 +170,16 @@ pub measured : (blocks : List Block) (weights : List ℕ) (rows : List (List ℕ
     (heights counts hs cs : List ℕ) → rows ≡ calls blocks → 0 < length blocks
     → ((m : ℕ) → m < length rows → IsLongest rows m (get_or heights m 0))
     → ((m k : ℕ) → m < length rows → get_or heights m 0 ≤ k
-        → get_or counts m 0 ≡ min (1000000 + 1) (total rows weights k m))
+    → get_or counts m 0 ≡ min (1000000 + 1) (total rows weights k m))
     → hs ≡ heights → cs ≡ counts → Measured blocks weights (get_or hs 0 0) (get_or cs 0 0)
 measured blocks weights rows heights counts hs cs e some tall much eh ec =
-    let l : 0 < length rows = omega (arith, some, ap length e, length-map blocks
-        (λ (b : Block). called b.calls)) in
+    let l : 0 < length rows = omega (
+      arith,
+      some,
+      ap length e,
+      length-map blocks
+          (λ (b : Block). called b.calls),
+    ) in
     let h : get_or hs 0 0 ≡ get_or heights 0 0 = ap (λ xs. get_or xs 0 0) eh in
     let c : get_or cs 0 0 ≡ get_or counts 0 0 = ap (λ xs. get_or xs 0 0) ec in
     record {

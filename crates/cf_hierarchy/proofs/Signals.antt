@@ -30,20 +30,27 @@ located_from : (blocks : List Block) (all : List Instance) (firsts : List ℕ) (
     (cs : List Instance) → IsBased blocks b cs end → (n : ℕ)
     → n < length (nodes_from blocks all firsts i cs)
     → (k : ℕ) × (s : ℕ) × (k < length cs) × (s < size blocks (get_or cs k blank)) ×
-        (b + n ≡ (get_or cs k blank).base + s)
+    (b + n ≡ (get_or cs k blank).base + s)
 located_from blocks all firsts end b i [] based n h = absurd (omega arith)
 located_from blocks all firsts end b i (c ∷ cs) based n h =
     let f = node_of blocks all (slice_index firsts i) i in
     elim (cases_lt n (size blocks c)) [
-        inl l ↦ (0, n, omega arith, l, omega (arith, based.0))
+      | inl l ↦ (0, n, omega arith, l, omega (arith, based.0))
       | inr g ↦
           let j = n - size blocks c in
           let w : j < length (nodes_from blocks all firsts (suc i) cs) =
-            omega (arith, g, h, length-append (map f (block_of blocks c).drivers)
-                (nodes_from blocks all firsts (suc i) cs), length-map (block_of blocks c).drivers f)
-                in
+          omega (
+            arith,
+            g,
+            h,
+            length-append (map f (block_of blocks c).drivers)
+                (nodes_from blocks all firsts (suc i) cs),
+            length-map (block_of blocks c).drivers f,
+          )
+          in
           let r = located_from blocks all firsts end (b + size blocks c) (suc i) cs based.1 j w in
-          (suc r.0, r.1, omega (arith, r.2), r.3, omega (arith, r.4, g)) ]
+          (suc r.0, r.1, omega (arith, r.2), r.3, omega (arith, r.4, g))
+    ]
 
 base_low : (blocks : List Block) (end b : ℕ) (cs : List Instance) → IsBased blocks b cs end
     → (k : ℕ) → k < length cs → b ≤ (get_or cs k blank).base
@@ -68,9 +75,11 @@ is_at firsts (j ∷ p) i (a, at, l, e) = ap (λ n. slice_index firsts n + j) (is
     sym e
 
 needs_low : (rows : List (List ℕ)) (s t : ℕ) → Needs rows s t → s < length rows
-needs_low rows s t n = elim (cases_lt s (length rows))
-    [ inl l ↦ l | inr g ↦ let e = ap length (get_or_past rows s [] g) in absurd
-    (omega (arith, n.1, e)) ]
+needs_low rows s t n = elim (cases_lt s (length rows)) [
+  | inl l ↦ l
+  | inr g ↦ let e = ap length (get_or_past rows s [] g) in absurd
+      (omega (arith, n.1, e))
+]
 
 contains_one : (x y : ℕ) → Contains (x ∷ []) y → x ≡ y
 contains_one x y (zero, h, e) = e
@@ -101,26 +110,31 @@ module _ (blocks : List Block) (copies : List Instance) (firsts : List ℕ) (end
   copied : (p : List ℕ) (b : Block) → block_at blocks p ≡ Some b
       → (copy_at firsts p < length copies) × (block_of blocks
       (instance_at copies (copy_at firsts p)) ≡ b)
-  copied [] b h = (grown.some, ap (λ (k : ℕ). get_or blocks k no_block) grown.root ∙
-      get_or_from_slice_get blocks 0 b no_block h)
+  copied [] b h = (
+    grown.some,
+    ap (λ (k : ℕ). get_or blocks k no_block) grown.root ∙
+        get_or_from_slice_get blocks 0 b no_block h,
+  )
   copied (j ∷ p) b h =
       let c = called blocks j p b h in
       let old = copied p c.caller c.before in
       let new = (spread.calls (copy_at firsts p) old.0).called j c.call
-          (subst (λ (b : Block). slice_get b.calls j ≡ Some c.call) (sym old.1) c.at) in
-      (new.0, ap (λ (k : ℕ). get_or blocks k no_block) new.1 ∙ get_or_from_slice_get blocks
-          c.call.block b no_block c.block)
+      (subst (λ (b : Block). slice_get b.calls j ≡ Some c.call) (sym old.1) c.at) in (
+        new.0,
+        ap (λ (k : ℕ). get_or blocks k no_block) new.1 ∙ get_or_from_slice_get blocks
+            c.call.block b no_block c.block,
+      )
 
   -- a copy that is called
   child : (j : ℕ) (p : List ℕ) (b : Block) → block_at blocks (j ∷ p) ≡ Some b
       → (0 < copy_at firsts (j ∷ p)) × ((instance_at copies (copy_at firsts (j ∷ p))).parent ≡
-          copy_at firsts p) × ((instance_at copies (copy_at firsts (j ∷ p))).place ≡ j)
+      copy_at firsts p) × ((instance_at copies (copy_at firsts (j ∷ p))).place ≡ j)
   child j p b h =
       let c = called blocks j p b h in
       let old = copied p c.caller c.before in
       let calls = spread.calls (copy_at firsts p) old.0 in
       let new = calls.called j c.call (subst (λ (b : Block). slice_get b.calls j ≡ Some c.call)
-          (sym old.1) c.at) in
+      (sym old.1) c.at) in
       (omega (arith, calls.later), new.2, new.3)
 
   -- a copy stands at one path
@@ -135,7 +149,7 @@ module _ (blocks : List Block) (copies : List Instance) (firsts : List ℕ) (end
       let parent = sym x.1 ∙ ap (λ n. (instance_at copies n).parent) e ∙ y.1 in
       let place : j ≡ l = sym x.2 ∙ ap (λ n. (instance_at copies n).place) e ∙ y.2 in
       ap (λ n. n ∷ p) place ∙ ap (λ (ps : List ℕ). l ∷ ps)
-          (path_once p q u.caller v.caller u.before v.before parent)
+      (path_once p q u.caller v.caller u.before v.before parent)
 
   size_is : (x : Signal) (v : Valid blocks x)
       → x.at < size blocks (instance_at copies (copy_at firsts x.path))
@@ -149,11 +163,20 @@ module _ (blocks : List Block) (copies : List Instance) (firsts : List ℕ) (end
       let a = copied x.path v.0 v.1 in let b = copied y.path w.0 w.1 in
       let sx = size_is x v in let sy = size_is y w in
       let same : i ≡ k = elim (cases_order i k) [
-          inl z ↦ z
-        | inr (inl l) ↦ absurd (omega (arith, base_apart blocks end 0 copies grown.based i k l b.0,
-            e, sx))
-        | inr (inr g) ↦ absurd (omega (arith, base_apart blocks end 0 copies grown.based k i g a.0,
-            e, sy)) ] in
+        | inl z ↦ z
+        | inr (inl l) ↦ absurd (omega (
+          arith,
+          base_apart blocks end 0 copies grown.based i k l b.0,
+          e,
+          sx,
+        ))
+        | inr (inr g) ↦ absurd (omega (
+          arith,
+          base_apart blocks end 0 copies grown.based k i g a.0,
+          e,
+          sy,
+        ))
+      ] in
       let path : x.path ≡ y.path = path_once x.path y.path v.0 w.0 v.1 w.1 same in
       let at : x.at ≡ y.at = omega (arith, e, ap (λ n. (instance_at copies n).base) same) in
       let make : List ℕ → ℕ → Signal = λ p n. record { path = p; at = n } in
@@ -165,62 +188,65 @@ module _ (blocks : List Block) (copies : List Instance) (firsts : List ℕ) (end
       let l = located_from blocks copies firsts end 0 0 copies grown.based n h in
       let p = (grown.placed l.0 l.2).1 in
       let x : Signal = record { path = p.path; at = l.1 } in
-      let at = is_at firsts p.path l.0 p.at in
-      (x, (block_of blocks (instance_at copies l.0), p.there, l.3), omega
-          (arith, l.4, ap (λ n. (instance_at copies n).base) at))
+      let at = is_at firsts p.path l.0 p.at in (
+        x,
+        (block_of blocks (instance_at copies l.0), p.there, l.3),
+        omega
+            (arith, l.4, ap (λ n. (instance_at copies n).base) at),
+      )
 
   -- the node of a signal
   pub node_there : (x : Signal) (b : Block) (d : Driver) → block_at blocks x.path ≡ Some b
       → slice_get b.drivers x.at ≡ Some d
       → slice_get nodes (number x) ≡ Some (node_of blocks copies
-          (slice_index firsts (copy_at firsts x.path)) (copy_at firsts x.path) d)
+      (slice_index firsts (copy_at firsts x.path)) (copy_at firsts x.path) d)
   node_there x b d h e =
       let c = copied x.path b h in
       has_nodes blocks copies firsts end grown.based (copy_at firsts x.path) x.at d c.0
-          (subst (λ (b : Block). slice_get b.drivers x.at ≡ Some d) (sym c.1) e)
+      (subst (λ (b : Block). slice_get b.drivers x.at ≡ Some d) (sym c.1) e)
 
   pub number_within : (x : Signal) → Valid blocks x → number x < length nodes
   number_within x v =
       let d : Driver = get_or v.0.drivers x.at (driver.Formal 0) in
       slice_get_within nodes (number x) _ (node_there x v.0 d v.1
-          (slice_get-get_or v.0.drivers x.at (driver.Formal 0) v.2))
+      (slice_get-get_or v.0.drivers x.at (driver.Formal 0) v.2))
 
   -- the row of a signal
   pub row_there : (x : Signal) (b : Block) (d : Driver) → block_at blocks x.path ≡ Some b
       → slice_get b.drivers x.at ≡ Some d
       → row (map needs nodes) (number x) ≡ needs
-          (node_of blocks copies (slice_index firsts (copy_at firsts x.path))
-          (copy_at firsts x.path) d)
+      (node_of blocks copies (slice_index firsts (copy_at firsts x.path))
+      (copy_at firsts x.path) d)
   row_there x b d h e =
       let f = node_of blocks copies (slice_index firsts (copy_at firsts x.path))
-          (copy_at firsts x.path) d in
+      (copy_at firsts x.path) d in
       let at = node_there x b d h e in
       get_or-map needs nodes (number x) f [] (slice_get_within nodes (number x) f at) ∙ ap needs
-          (get_or_from_slice_get nodes (number x) f f at)
+      (get_or_from_slice_get nodes (number x) f f at)
 
   -- what an input of a called copy stands for
   formal_number : (j : ℕ) (p : List ℕ) (b : Block) (k : ℕ) (h : block_at blocks (j ∷ p) ≡ Some b)
       → formal_node blocks copies (copy_at firsts (j ∷ p)) k ≡ node.Alias
-          ((instance_at copies (copy_at firsts p)).base + slice_index
-          (called blocks j p b h).call.actuals k)
+      ((instance_at copies (copy_at firsts p)).base + slice_index
+      (called blocks j p b h).call.actuals k)
   formal_number j p b k h =
       let c = called blocks j p b h in
       let i = copy_at firsts (j ∷ p) in
       let old = copied p c.caller c.before in
       let new = child j p b h in
       let at : get_or (block_of blocks (instance_at copies (copy_at firsts p))).calls j no_call ≡
-          c.call =
-        ap (λ (b : Block). get_or b.calls j no_call) old.1 ∙ get_or_from_slice_get c.caller.calls j
-            c.call no_call c.at in
+      c.call =
+      ap (λ (b : Block). get_or b.calls j no_call) old.1 ∙ get_or_from_slice_get c.caller.calls j
+      c.call no_call c.at in
       formal_later blocks copies i k new.0
       ∙ ap (λ (q : ℕ). node.Alias ((instance_at copies q).base + slice_index
-          (get_or (block_of blocks (instance_at copies q)).calls (instance_at copies i).place
-          no_call).actuals k)) new.1
+      (get_or (block_of blocks (instance_at copies q)).calls (instance_at copies i).place
+      no_call).actuals k)) new.1
       ∙ ap (λ (q : ℕ). node.Alias ((instance_at copies (copy_at firsts p)).base + slice_index
-          (get_or (block_of blocks (instance_at copies (copy_at firsts p))).calls q no_call).actuals
-          k)) new.2
+      (get_or (block_of blocks (instance_at copies (copy_at firsts p))).calls q no_call).actuals
+      k)) new.2
       ∙ ap (λ (d : Call). node.Alias ((instance_at copies (copy_at firsts p)).base + slice_index
-          d.actuals k)) at
+      d.actuals k)) at
 
   abbrev own : List ℕ → Driver → Node
   own p d = node_of blocks copies (slice_index firsts (copy_at firsts p)) (copy_at firsts p) d
@@ -236,7 +262,7 @@ module _ (blocks : List Block) (copies : List Instance) (firsts : List ℕ) (end
   enough j p s b k h e =
       let u = called blocks j p b h in
       (all_get (IsCall blocks u.caller) u.caller.calls j u.call
-          (is_block blocks p u.caller ok u.before).calls u.at).enough b s k u.block e
+      (is_block blocks p u.caller ok u.before).calls u.at).enough b s k u.block e
 
   -- what the node of a signal needs are the numbers of what the signal needs
   back : (p : List ℕ) (s : ℕ) (b : Block) (d : Driver) → block_at blocks p ≡ Some b
@@ -246,27 +272,38 @@ module _ (blocks : List Block) (copies : List Instance) (firsts : List ℕ) (end
   back (j ∷ p) s b (driver.Formal k) h e t c =
       let u = called blocks j p b h in
       let one = contains_one _ t (subst (λ (n : Node). Contains (needs n) t)
-          (formal_number j p b k h) c) in
+      (formal_number j p b k h) c) in
       let more = enough j p s b k h e in
       let within = (all_get (IsCall blocks u.caller) u.caller.calls j u.call
-          (is_block blocks p u.caller ok u.before).calls u.at).actuals k 0 more in
-      (record { path = p; at = get_or u.call.actuals k 0 },
-          (j, u.caller, u.call, refl, u.before, u.at, slice_get-get_or u.call.actuals k 0 more),
-          (u.caller, u.before, within), one)
+      (is_block blocks p u.caller ok u.before).calls u.at).actuals k 0 more in (
+        record { path = p; at = get_or u.call.actuals k 0 },
+        (j, u.caller, u.call, refl, u.before, u.at, slice_get-get_or u.call.actuals k 0 more),
+        (u.caller, u.before, within),
+        one,
+      )
   back p s b (driver.Made g) h e t (k, l, z) =
       let from = (instance_at copies (copy_at firsts p)).base in
       let m : k < length g.ins = omega (arith, l, length-map g.ins (λ t. from + t)) in
-      let is = is_driver p s b (driver.Made g) h e in
-      (record { path = p; at = get_or g.ins k 0 },
-          (refl, (k, m, get_or_default g.ins k (get_or g.ins k 0) 0 m)), (b, h, is k 0 m), sym
-          (get_or-map (λ t. from + t) g.ins k 0 t m) ∙ z)
+      let is = is_driver p s b (driver.Made g) h e in (
+        record { path = p; at = get_or g.ins k 0 },
+        (refl, (k, m, get_or_default g.ins k (get_or g.ins k 0) 0 m)),
+        (b, h, is k 0 m),
+        sym
+            (get_or-map (λ t. from + t) g.ins k 0 t m) ∙ z,
+      )
   back p s b (driver.Back j f) h e t c =
-      let is = is_driver p s b (driver.Back j f) h e in
-      (record { path = j ∷ p; at = f }, (refl, refl),
-       (is.1, ap (option_and_then (λ (b : Block). option_and_then
-           (λ (c : Call). slice_get blocks c.block) (slice_get b.calls j))) h ∙ ap
-           (option_and_then (λ (c : Call). slice_get blocks c.block)) is.2 ∙ is.3, is.4),
-       contains_one _ t c)
+      let is = is_driver p s b (driver.Back j f) h e in (
+        record { path = j ∷ p; at = f },
+        (refl, refl),
+        (
+          is.1,
+          ap (option_and_then (λ (b : Block). option_and_then
+              (λ (c : Call). slice_get blocks c.block) (slice_get b.calls j))) h ∙ ap
+              (option_and_then (λ (c : Call). slice_get blocks c.block)) is.2 ∙ is.3,
+          is.4,
+        ),
+        contains_one _ t c,
+      )
 
   forth : (p : List ℕ) (s : ℕ) (b : Block) (d : Driver) → block_at blocks p ≡ Some b
       → slice_get b.drivers s ≡ Some d → (y : Signal) → DriverNeeds blocks p d y
@@ -278,40 +315,46 @@ module _ (blocks : List Block) (copies : List Instance) (firsts : List ℕ) (end
       let path : q ≡ y.path = cc (pe) in
       let place : l ≡ j = cc (pe) in
       let same : u.caller ≡ a = let z : Some u.caller ≡ Some a = sym u.before ∙ ap (block_at blocks)
-          path ∙ before in cc (z) in
+      path ∙ before in cc (z) in
       let call : u.call ≡ c = let z : Some u.call ≡ Some c = sym u.at ∙ ap
-          (λ (b : Block). slice_get b.calls l) same ∙ ap (λ n. slice_get a.calls n) place ∙ at in cc
-          (z) in
+      (λ (b : Block). slice_get b.calls l) same ∙ ap (λ n. slice_get a.calls n) place ∙ at in cc
+      (z) in
       let k' = slice_get_within c.actuals k y.at act in
       let within = (all_get (IsCall blocks a) a.calls j c (is_block blocks y.path a ok before).calls
-          at).actuals k 0 k' in
+      at).actuals k 0 k' in
       let value = get_or_from_slice_get c.actuals k y.at 0 act in
       let num : (instance_at copies (copy_at firsts q)).base + slice_index u.call.actuals k ≡ number
-          y =
-        ap (λ (c : Call). (instance_at copies (copy_at firsts q)).base + slice_index c.actuals k)
-            call
-        ∙ ap (λ n. (instance_at copies (copy_at firsts q)).base + n) value
-        ∙ ap (λ (p : List ℕ). (instance_at copies (copy_at firsts p)).base + y.at) path in
-      ((a, before, omega (arith, within, value)),
-       subst (λ (n : Node). Contains (needs n) (number y)) (sym (formal_number l q b k h))
-           (0, omega arith, num))
+      y =
+      ap (λ (c : Call). (instance_at copies (copy_at firsts q)).base + slice_index c.actuals k)
+      call
+      ∙ ap (λ n. (instance_at copies (copy_at firsts q)).base + n) value
+      ∙ ap (λ (p : List ℕ). (instance_at copies (copy_at firsts p)).base + y.at) path in (
+        (a, before, omega (arith, within, value)),
+        subst (λ (n : Node). Contains (needs n) (number y)) (sym (formal_number l q b k h))
+            (0, omega arith, num),
+      )
   forth p s b (driver.Made g) h e y (pe, c) =
       let from = (instance_at copies (copy_at firsts p)).base in
       let is = is_driver p s b (driver.Made g) h e in
       let in' : y.at < length b.drivers = let w = is c.0 y.at c.1 in omega (arith, w, c.2) in
       let num : from + y.at ≡ number y = ap (λ (p : List ℕ).
-          (instance_at copies (copy_at firsts p)).base + y.at) (sym pe) in
-      ((b, ap (block_at blocks) pe ∙ h, in'),
-       (c.0, omega (arith, c.1, length-map g.ins (λ t. from + t)), get_or-map (λ t. from + t) g.ins
-           c.0 y.at (number y) c.1 ∙ ap (λ n. from + n) c.2 ∙ num))
+      (instance_at copies (copy_at firsts p)).base + y.at) (sym pe) in (
+        (b, ap (block_at blocks) pe ∙ h, in'),
+        (
+          c.0,
+          omega (arith, c.1, length-map g.ins (λ t. from + t)),
+          get_or-map (λ t. from + t) g.ins
+              c.0 y.at (number y) c.1 ∙ ap (λ n. from + n) c.2 ∙ num,
+        ),
+      )
   forth p s b (driver.Back j f) h e y (pe, at) =
       let is = is_driver p s b (driver.Back j f) h e in
       let there = ap (option_and_then (λ (b : Block). option_and_then
-          (λ (c : Call). slice_get blocks c.block) (slice_get b.calls j))) h ∙ ap
-          (option_and_then (λ (c : Call). slice_get blocks c.block)) is.2 ∙ is.3 in
+      (λ (c : Call). slice_get blocks c.block) (slice_get b.calls j))) h ∙ ap
+      (option_and_then (λ (c : Call). slice_get blocks c.block)) is.2 ∙ is.3 in
       let num : (instance_at copies (copy_at firsts (j ∷ p))).base + f ≡ number y =
-        ap (λ n. (instance_at copies (copy_at firsts (j ∷ p))).base + n) (sym at) ∙ ap
-            (λ (p : List ℕ). (instance_at copies (copy_at firsts p)).base + y.at) (sym pe) in
+      ap (λ n. (instance_at copies (copy_at firsts (j ∷ p))).base + n) (sym at) ∙ ap
+      (λ (p : List ℕ). (instance_at copies (copy_at firsts p)).base + y.at) (sym pe) in
       ((is.1, ap (block_at blocks) pe ∙ there, omega (arith, is.4, at)), (0, omega arith, num))
 
   abbrev rows : List (List ℕ)
@@ -322,17 +365,19 @@ module _ (blocks : List Block) (copies : List Instance) (firsts : List ℕ) (end
   step_back x v t n =
       let d : Driver = get_or v.0.drivers x.at (driver.Formal 0) in
       let e : slice_get v.0.drivers x.at ≡ Some d = slice_get-get_or v.0.drivers x.at
-          (driver.Formal 0) v.2 in
+      (driver.Formal 0) v.2 in
       let r = back x.path x.at v.0 d v.1 e t (subst (λ ts. Contains ts t) (row_there x v.0 d v.1 e)
-          n) in
+      n) in
       (r.0, record { block = v.0; driver = d; there = v.1; drives = e; needs = r.1 }, r.2, r.3)
 
   step_forth : (x y : Signal) → SignalNeeds blocks x y
       → Valid blocks y × Needs rows (number x) (number y)
   step_forth x y n =
-      let f = forth x.path x.at n.block n.driver n.there n.drives y n.needs in
-      (f.0, subst (λ ts. Contains ts (number y))
-          (sym (row_there x n.block n.driver n.there n.drives)) f.1)
+      let f = forth x.path x.at n.block n.driver n.there n.drives y n.needs in (
+        f.0,
+        subst (λ ts. Contains ts (number y))
+            (sym (row_there x n.block n.driver n.there n.drives)) f.1,
+      )
 
   chain_forth : (x : Signal) (zs : List Signal) (y : Signal) → SignalChain blocks x zs y
       → Chain rows (number x) (map number zs) (number y)
@@ -365,8 +410,12 @@ module _ (blocks : List Block) (copies : List Instance) (firsts : List ℕ) (end
       let x = signal_of a (chain_within a rest a ring) in
       let r = chain_back a rest a x.0 x.1 x.2 ring in
       let same : r.1 ≡ x.0 = number_once r.1 x.0 r.3 x.1 (r.4 ∙ sym x.2) in
-      record { first = x.0; rest = r.0; ring = subst (λ (y : Signal). SignalChain blocks x.0 r.0 y)
-          same r.2 }
+      record {
+        first = x.0;
+        rest = r.0;
+        ring = subst (λ (y : Signal). SignalChain blocks x.0 r.0 y)
+            same r.2;
+      }
 
   pub rows_below : All (All (λ t. t < length rows)) rows
   rows_below k d h i e l =
@@ -375,7 +424,7 @@ module _ (blocks : List Block) (copies : List Instance) (firsts : List ℕ) (end
       let t = get_or (get_or rows k d) i e in
       let same : row rows k ≡ get_or rows k d = get_or_default rows k [] d h in
       let n : Needs rows k t = subst (λ ts. Contains ts t) (sym same)
-          (i, l, get_or_default (get_or rows k d) i t e l) in
+      (i, l, get_or_default (get_or rows k d) i t e l) in
       let s = step_back x.0 x.1 t (subst (λ a. Needs rows a t) (sym x.2) n) in
       omega (arith, number_within s.0 s.2, s.3, length-map nodes needs)
 
@@ -385,7 +434,7 @@ module _ (blocks : List Block) (copies : List Instance) (firsts : List ℕ) (end
   own_ok n [] s b (driver.Formal k) h e root =
       let same : get_or blocks 0 no_block ≡ b = get_or_from_slice_get blocks 0 b no_block h in
       all_get (IsRootInput n) b.drivers s (driver.Formal k)
-          (subst (λ (b : Block). All (IsRootInput n) b.drivers) same root) e
+      (subst (λ (b : Block). All (IsRootInput n) b.drivers) same root) e
   own_ok n (j ∷ p) s b (driver.Formal k) h e root = subst (IsNode n) (sym (formal_number j p b k h))
       tt
   own_ok n p s b (driver.Made g) h e root = tt
@@ -398,11 +447,11 @@ module _ (blocks : List Block) (copies : List Instance) (firsts : List ℕ) (end
       let v = x.1 in
       let f : Driver = get_or v.0.drivers x.0.at (driver.Formal 0) in
       let e : slice_get v.0.drivers x.0.at ≡ Some f = slice_get-get_or v.0.drivers x.0.at
-          (driver.Formal 0) v.2 in
+      (driver.Formal 0) v.2 in
       let at = get_or_from_slice_get nodes (number x.0) (own x.0.path f) d
-          (node_there x.0 v.0 f v.1 e) in
+      (node_there x.0 v.0 f v.1 e) in
       subst (λ k. IsNode n (get_or nodes k d)) x.2
-          (subst (IsNode n) (sym at) (own_ok n x.0.path x.0.at v.0 f v.1 e root))
+      (subst (IsNode n) (sym at) (own_ok n x.0.path x.0.at v.0 f v.1 e root))
 
   -- a wire that shows a number of the first copy shows the hierarchy's signal
   pub shows_root : (n : ℕ) (gates : List Gate) (wires : List ℕ) (s : ℕ)
@@ -411,12 +460,12 @@ module _ (blocks : List Block) (copies : List Instance) (firsts : List ℕ) (end
   shows_root n gates wires s h shows long means bits inputs m l =
       let zero_block : (get_or copies 0 blank).block < length blocks = grown.there 0 grown.some in
       let first : block_at blocks [] ≡ Some (get_or blocks 0 no_block) = slice_get-get_or blocks 0
-          no_block (omega (arith, zero_block, grown.root)) in
+      no_block (omega (arith, zero_block, grown.root)) in
       let z : (instance_at copies (copy_at firsts [])).base + s ≡ s = omega
-          (arith, base_zero blocks end copies grown.based grown.some) in
+      (arith, base_zero blocks end copies grown.based grown.some) in
       sym (spread_value means blocks bits copies firsts nodes ok spread
-          (has_nodes blocks copies firsts end grown.based) m [] s (get_or blocks 0 no_block) first
-          h)
+      (has_nodes blocks copies firsts end grown.based) m [] s (get_or blocks 0 no_block) first
+      h)
       ∙ ap (λ k. cval means nodes bits m k) z
       ∙ shows means bits inputs m (omega (arith, l, long))
 
@@ -424,7 +473,7 @@ module _ (blocks : List Block) (copies : List Instance) (firsts : List ℕ) (end
   root_within s h =
       let zero_block : (get_or copies 0 blank).block < length blocks = grown.there 0 grown.some in
       let first : block_at blocks [] ≡ Some (get_or blocks 0 no_block) = slice_get-get_or blocks 0
-          no_block (omega (arith, zero_block, grown.root)) in
+      no_block (omega (arith, zero_block, grown.root)) in
       let w = number_within (record { path = []; at = s }) (get_or blocks 0 no_block, first, h) in
       omega (arith, w)
 

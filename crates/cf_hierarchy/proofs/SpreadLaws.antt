@@ -31,7 +31,7 @@ map_agree f g [] h = refl
 map_agree f g (x ∷ xs) h =
     let P : ℕ → Type 0 = λ x. f x ≡ g x in
     ap (λ b. b ∷ map f xs) (All-head P x xs h) ∙ ap (λ bs. g x ∷ bs)
-        (map_agree f g xs (All-tail P x xs h))
+    (map_agree f g xs (All-tail P x xs h))
 
 map-map : {A B C : Type 0} (f : A → B) (g : B → C) (xs : List A)
     → map g (map f xs) ≡ map (λ x. g (f x)) xs
@@ -50,7 +50,7 @@ pub called : (blocks : List Block) (j : ℕ) (p : List ℕ) (b : Block)
     → block_at blocks (j ∷ p) ≡ Some b → Called blocks j p b
 called blocks j p b h =
     let u = then_cases (λ b. option_and_then (λ c. slice_get blocks c.block) (slice_get b.calls j))
-        (block_at blocks p) b h in
+    (block_at blocks p) b h in
     let v = then_cases (λ c. slice_get blocks c.block) (slice_get u.0.calls j) b u.2 in
     record { caller = u.0; call = v.0; before = u.1; at = v.1; block = v.2 }
 
@@ -63,29 +63,34 @@ is_block blocks (j ∷ p) b ok h = let c = called blocks j p b h in all_get (IsB
 
 pub formal_later : (blocks : List Block) (copies : List Instance) (i k : ℕ) → 0 < i
     → formal_node blocks copies i k ≡ node.Alias
-        ((instance_at copies (instance_at copies i).parent).base
-      + slice_index (get_or (block_of blocks (instance_at copies
-          (instance_at copies i).parent)).calls (instance_at copies i).place no_call).actuals k)
+    ((instance_at copies (instance_at copies i).parent).base
+    + slice_index (get_or (block_of blocks (instance_at copies
+    (instance_at copies i).parent)).calls (instance_at copies i).place no_call).actuals k)
 formal_later blocks copies zero k h = absurd (omega arith)
 formal_later blocks copies (suc i) k h = refl
 
 module _ (means : Meaning) (blocks : List Block) (bits : List Bool) (copies : List Instance)
     (firsts : List ℕ) (nodes : List Node)
     (ok : All (IsBlock blocks) blocks) (spread : IsSpread blocks copies firsts)
-        (has : HasNodes blocks copies firsts nodes) where
+    (has : HasNodes blocks copies firsts nodes) where
   -- the copy at a path is a copy of the block at the path
   pub copied : (p : List ℕ) (b : Block) → block_at blocks p ≡ Some b
       → (copy_at firsts p < length copies) × (block_of blocks
       (instance_at copies (copy_at firsts p)) ≡ b)
-  copied [] b h = (spread.some, ap (λ (k : ℕ). get_or blocks k no_block) spread.root ∙
-      get_or_from_slice_get blocks 0 b no_block h)
+  copied [] b h = (
+    spread.some,
+    ap (λ (k : ℕ). get_or blocks k no_block) spread.root ∙
+        get_or_from_slice_get blocks 0 b no_block h,
+  )
   copied (j ∷ p) b h =
       let c = called blocks j p b h in
       let old = copied p c.caller c.before in
       let new = (spread.calls (copy_at firsts p) old.0).called j c.call
-          (subst (λ (b : Block). slice_get b.calls j ≡ Some c.call) (sym old.1) c.at) in
-      (new.0, ap (λ (k : ℕ). get_or blocks k no_block) new.1 ∙ get_or_from_slice_get blocks
-          c.call.block b no_block c.block)
+      (subst (λ (b : Block). slice_get b.calls j ≡ Some c.call) (sym old.1) c.at) in (
+        new.0,
+        ap (λ (k : ℕ). get_or blocks k no_block) new.1 ∙ get_or_from_slice_get blocks
+            c.call.block b no_block c.block,
+      )
 
   base : List ℕ → ℕ
   base p = (instance_at copies (copy_at firsts p)).base
@@ -94,13 +99,13 @@ module _ (means : Meaning) (blocks : List Block) (bits : List Bool) (copies : Li
   Same : ℕ → Type 0
   Same m = (p : List ℕ) (s : ℕ) (b : Block) → block_at blocks p ≡ Some b → s < length b.drivers
       → cval means nodes bits m ((instance_at copies (copy_at firsts p)).base + s) ≡ hval means
-          blocks bits m p s
+      blocks bits m p s
 
   formal_same : (m : ℕ) → Same m → (p : List ℕ) (b : Block) (s k : ℕ) → block_at blocks p ≡ Some b
       → slice_get b.drivers s ≡ Some (driver.Formal k)
       → value_at means bits (cval means nodes bits m)
-          (formal_node blocks copies (copy_at firsts p) k) ≡ formal_value blocks bits
-          (hval means blocks bits m) p k
+      (formal_node blocks copies (copy_at firsts p) k) ≡ formal_value blocks bits
+      (hval means blocks bits m) p k
   unfolding Same
   formal_same m same [] b s k h e = refl
   formal_same m same (j ∷ p) b s k h e =
@@ -108,56 +113,56 @@ module _ (means : Meaning) (blocks : List Block) (bits : List Bool) (copies : Li
       let old = copied p c.caller c.before in
       let calls = spread.calls (copy_at firsts p) old.0 in
       let new = calls.called j c.call (subst (λ (b : Block). slice_get b.calls j ≡ Some c.call)
-          (sym old.1) c.at) in
+      (sym old.1) c.at) in
       let i = slice_index firsts (copy_at firsts p) + j in
       let good = all_get (IsCall blocks c.caller) c.caller.calls j c.call
-          (is_block blocks p c.caller ok c.before).calls c.at in
+      (is_block blocks p c.caller ok c.before).calls c.at in
       let enough : k < length c.call.actuals = good.enough b s k c.block e in
       let t = get_or c.call.actuals k 0 in
       let within : t < length c.caller.drivers = good.actuals k 0 enough in
       let at : get_or (block_of blocks (instance_at copies (copy_at firsts p))).calls j no_call ≡
-          c.call =
-        ap (λ (b : Block). get_or b.calls j no_call) old.1 ∙ get_or_from_slice_get c.caller.calls j
-            c.call no_call c.at in
+      c.call =
+      ap (λ (b : Block). get_or b.calls j no_call) old.1 ∙ get_or_from_slice_get c.caller.calls j
+      c.call no_call c.at in
       let later : 0 < i = omega (arith, calls.later) in
       ap (value_at means bits (cval means nodes bits m)) (formal_later blocks copies i k later)
       ∙ ap (λ (q : ℕ). cval means nodes bits m
-          ((instance_at copies q).base + slice_index
-          (get_or (block_of blocks (instance_at copies q)).calls (instance_at copies i).place
-          no_call).actuals k)) new.2
+      ((instance_at copies q).base + slice_index
+      (get_or (block_of blocks (instance_at copies q)).calls (instance_at copies i).place
+      no_call).actuals k)) new.2
       ∙ ap (λ (q : ℕ). cval means nodes bits m
-          ((instance_at copies (copy_at firsts p)).base + slice_index
-          (get_or (block_of blocks (instance_at copies (copy_at firsts p))).calls q no_call).actuals
-          k)) new.3
+      ((instance_at copies (copy_at firsts p)).base + slice_index
+      (get_or (block_of blocks (instance_at copies (copy_at firsts p))).calls q no_call).actuals
+      k)) new.3
       ∙ ap (λ (d : Call). cval means nodes bits m
-          ((instance_at copies (copy_at firsts p)).base + slice_index d.actuals k)) at
+      ((instance_at copies (copy_at firsts p)).base + slice_index d.actuals k)) at
       ∙ same p t c.caller c.before within
       ∙ sym (ap (option_and_then (λ (b : Block). option_and_then
-          (λ (c : Call). option_and_then (hval means blocks bits m p) (slice_get c.actuals k))
-          (slice_get b.calls j))) c.before
-          ∙ ap (option_and_then (λ (c : Call). option_and_then (hval means blocks bits m p)
-              (slice_get c.actuals k))) c.at
-          ∙ ap (option_and_then (hval means blocks bits m p))
-              (slice_get-get_or c.call.actuals k 0 enough))
+      (λ (c : Call). option_and_then (hval means blocks bits m p) (slice_get c.actuals k))
+      (slice_get b.calls j))) c.before
+      ∙ ap (option_and_then (λ (c : Call). option_and_then (hval means blocks bits m p)
+      (slice_get c.actuals k))) c.at
+      ∙ ap (option_and_then (hval means blocks bits m p))
+      (slice_get-get_or c.call.actuals k 0 enough))
 
   driver_same : (m : ℕ) → Same m → (p : List ℕ) (b : Block) (s : ℕ) (d : Driver)
       → block_at blocks p ≡ Some b → slice_get b.drivers s ≡ Some d → IsDriver blocks b d
       → value_at means bits (cval means nodes bits m)
-          (node_of blocks copies (slice_index firsts (copy_at firsts p)) (copy_at firsts p) d) ≡
-          driven means blocks bits (hval means blocks bits m) p d
+      (node_of blocks copies (slice_index firsts (copy_at firsts p)) (copy_at firsts p) d) ≡
+      driven means blocks bits (hval means blocks bits m) p d
   unfolding Same
   driver_same m same p b s (driver.Formal k) h e is = formal_same m same p b s k h e
   driver_same m same p b s (driver.Made g) h e is =
       let from = (instance_at copies (copy_at firsts p)).base in
       ap (λ os. option_map (means g.cover) (all_of os))
       (map-map (λ t. from + t) (cval means nodes bits m) g.ins ∙ map_agree
-          (λ t. cval means nodes bits m (from + t)) (hval means blocks bits m p) g.ins
-          (λ i d l. same p (get_or g.ins i d) b h (is i d l)))
+      (λ t. cval means nodes bits m (from + t)) (hval means blocks bits m p) g.ins
+      (λ i d l. same p (get_or g.ins i d) b h (is i d l)))
   driver_same m same p b s (driver.Back j f) h e (c, d, at, block, within) =
       same (j ∷ p) f d
       (ap (option_and_then (λ (b : Block). option_and_then (λ (c : Call). slice_get blocks c.block)
-          (slice_get b.calls j))) h ∙ ap (option_and_then (λ (c : Call). slice_get blocks c.block))
-          at ∙ block)
+      (slice_get b.calls j))) h ∙ ap (option_and_then (λ (c : Call). slice_get blocks c.block))
+      at ∙ block)
       within
 
   all_same : (m : ℕ) → Same m
@@ -170,16 +175,16 @@ module _ (means : Meaning) (blocks : List Block) (bits : List Bool) (copies : Li
       let e : slice_get b.drivers s ≡ Some d = slice_get-get_or b.drivers s (driver.Formal 0) l in
       let is = (is_block blocks p b ok h).drivers s (driver.Formal 0) l in
       ap (option_and_then (value_at means bits (cval means nodes bits m)))
-          (has i s d old.0 (subst (λ (b : Block). slice_get b.drivers s ≡ Some d) (sym old.1) e))
+      (has i s d old.0 (subst (λ (b : Block). slice_get b.drivers s ≡ Some d) (sym old.1) e))
       ∙ driver_same m (all_same m) p b s d h e is
       ∙ sym (ap (option_and_then (λ (b : Block). option_and_then
-          (driven means blocks bits (hval means blocks bits m) p) (slice_get b.drivers s))) h
-          ∙ ap (option_and_then (driven means blocks bits (hval means blocks bits m) p)) e)
+      (driven means blocks bits (hval means blocks bits m) p) (slice_get b.drivers s))) h
+      ∙ ap (option_and_then (driven means blocks bits (hval means blocks bits m) p)) e)
 
   -- a signal of the nodes has the value of the hierarchy's
   pub spread_value : (m : ℕ) (p : List ℕ) (s : ℕ) (b : Block) → block_at blocks p ≡ Some b
       → s < length b.drivers
       → cval means nodes bits m ((instance_at copies (copy_at firsts p)).base + s) ≡ hval means
-          blocks bits m p s
+      blocks bits m p s
   unfolding Same
   spread_value m p s b h l = all_same m p s b h l

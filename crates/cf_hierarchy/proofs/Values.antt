@@ -22,7 +22,7 @@ cons_below : (o p : Option Bool) (os ps : List (Option Bool)) → Below o p
 cons_below None p os ps h k bs e = cc
 cons_below (Some b) p os ps h k bs e =
     subst (λ q. all_of (q ∷ ps) ≡ Some bs) (sym (h b refl))
-        (map_below (λ cs. b ∷ cs) (all_of os) (all_of ps) k bs e)
+    (map_below (λ cs. b ∷ cs) (all_of os) (all_of ps) k bs e)
 
 all_below : (at to : ℕ → Option Bool) → ((t : ℕ) → Below (at t) (to t)) → (ins : List ℕ)
     → Below (all_of (map at ins)) (all_of (map to ins))
@@ -50,9 +50,9 @@ unfolding cval
 cval_more means nodes bits zero s b e = cc
 cval_more means nodes bits (suc m) s b e =
     then_below (value_at means bits (cval means nodes bits m))
-        (value_at means bits (cval means nodes bits (suc m)))
+    (value_at means bits (cval means nodes bits (suc m)))
     (value_below means bits (cval means nodes bits m) (cval means nodes bits (suc m))
-        (λ t. cval_more means nodes bits m t)) (slice_get nodes s) b e
+    (λ t. cval_more means nodes bits m t)) (slice_get nodes s) b e
 
 cval_plus : (means : Meaning) (nodes : List Node) (bits : List Bool) (m k s : ℕ)
     → Below (cval means nodes bits m s) (cval means nodes bits (k + m) s)
@@ -61,14 +61,14 @@ cval_plus means nodes bits m zero s b e = subst (λ n. cval means nodes bits n s
 cval_plus means nodes bits m (suc k) s b e =
     let z : suc (k + m) ≡ suc k + m = omega arith in
     subst (λ n. cval means nodes bits n s ≡ Some b) z
-        (cval_more means nodes bits (k + m) s b (cval_plus means nodes bits m k s b e))
+    (cval_more means nodes bits (k + m) s b (cval_plus means nodes bits m k s b e))
 
 -- a value stays at every higher m
 pub cval_up : (means : Meaning) (nodes : List Node) (bits : List Bool) (m n s : ℕ) (b : Bool)
     → m ≤ n → cval means nodes bits m s ≡ Some b → cval means nodes bits n s ≡ Some b
 cval_up means nodes bits m n s b h e =
     let z : (n - m) + m ≡ n = omega arith in subst (λ k. cval means nodes bits k s ≡ Some b) z
-        (cval_plus means nodes bits m (n - m) s b e)
+    (cval_plus means nodes bits m (n - m) s b e)
 
 pub cval_step : (means : Meaning) (nodes : List Node) (bits : List Bool) (m s : ℕ) (n : Node)
     (b : Bool) → slice_get nodes s ≡ Some n → value_at means bits (cval means nodes bits m) n ≡ Some
@@ -77,7 +77,7 @@ unfolding cval
 cval_step means nodes bits m s n b at e =
     let z : suc m ≡ m + 1 = omega arith in
     subst (λ k. cval means nodes bits k s ≡ Some b) z
-        (ap (option_and_then (value_at means bits (cval means nodes bits m))) at ∙ e)
+    (ap (option_and_then (value_at means bits (cval means nodes bits m))) at ∙ e)
 
 pub all_known : (at : ℕ → Option Bool) (f : ℕ → Bool) (ins : List ℕ)
     → All (λ t. at t ≡ Some (f t)) ins → all_of (map at ins) ≡ Some (map f ins)
@@ -85,18 +85,21 @@ all_known at f [] h = refl
 all_known at f (t ∷ ts) h =
     let P : ℕ → Type 0 = λ t. at t ≡ Some (f t) in
     ap (λ o. all_of (o ∷ map at ts)) (All-head P t ts h) ∙ ap (option_map (λ bs. f t ∷ bs))
-        (all_known at f ts (All-tail P t ts h))
+    (all_known at f ts (All-tail P t ts h))
 
 -- one more gate
 pub UsesLower-push : (n : ℕ) (gs : List Gate) (g : Gate) → UsesLower n gs
     → All (λ w. w < n + length gs) g.ins → UsesLower n (gs ++ g ∷ [])
 UsesLower-push n [] g h k = ((λ i d l. omega (arith, k i d l)), tt)
-UsesLower-push n (a ∷ gs) g h k = (h.0, UsesLower-push (suc n) gs g h.1
-    (λ i d l. omega (arith, k i d l)))
+UsesLower-push n (a ∷ gs) g h k = (
+  h.0,
+  UsesLower-push (suc n) gs g h.1
+      (λ i d l. omega (arith, k i d l)),
+)
 
 pub wire_values-push : (means : Meaning) (vs : List Bool) (gs : List Gate) (g : Gate)
     → wire_values means vs (gs ++ g ∷ []) ≡ wire_values means vs gs ++ means g.cover
-        (map (λ w. get_or (wire_values means vs gs) w false) g.ins) ∷ []
+    (map (λ w. get_or (wire_values means vs gs) w false) g.ins) ∷ []
 wire_values-push means vs [] g = refl
 wire_values-push means vs (a ∷ gs) g = wire_values-push means
     (vs ++ means a.cover (map (λ w. get_or vs w false) a.ins) ∷ []) gs g
@@ -115,26 +118,26 @@ wire_first means vs [] i h = refl
 wire_first means vs (a ∷ gs) i h =
     let b = means a.cover (map (λ w. get_or vs w false) a.ins) in
     wire_first means (vs ++ b ∷ []) gs i (omega (arith, length_push vs b, h)) ∙ get_or_append_left
-        vs (b ∷ []) false i h
+    vs (b ∷ []) false i h
 
 -- a wire keeps its value when a gate comes
 pub wire_kept : (means : Meaning) (vs : List Bool) (gs : List Gate) (g : Gate) (w : ℕ)
     → w < length vs + length gs
     → get_or (wire_values means vs (gs ++ g ∷ [])) w false ≡ get_or (wire_values means vs gs) w
-        false
+    false
 wire_kept means vs gs g w h =
     let us = wire_values means vs gs in
     ap (λ zs. get_or zs w false) (wire_values-push means vs gs g) ∙ get_or_append_left us
-        (means g.cover (map (λ w. get_or us w false) g.ins) ∷ []) false w
-        (omega (arith, length-wire_values means vs gs, h))
+    (means g.cover (map (λ w. get_or us w false) g.ins) ∷ []) false w
+    (omega (arith, length-wire_values means vs gs, h))
 
 -- the wire of the new gate
 pub wire_new : (means : Meaning) (vs : List Bool) (gs : List Gate) (g : Gate) (w : ℕ)
     → w ≡ length vs + length gs
     → get_or (wire_values means vs (gs ++ g ∷ [])) w false ≡ means g.cover
-        (map (λ w. get_or (wire_values means vs gs) w false) g.ins)
+    (map (λ w. get_or (wire_values means vs gs) w false) g.ins)
 wire_new means vs gs g w e =
     let us = wire_values means vs gs in
     ap (λ zs. get_or zs w false) (wire_values-push means vs gs g) ∙ get_or_push us
-        (means g.cover (map (λ w. get_or us w false) g.ins)) false w
-        (length-wire_values means vs gs ∙ sym e)
+    (means g.cover (map (λ w. get_or us w false) g.ins)) false w
+    (length-wire_values means vs gs ∙ sym e)

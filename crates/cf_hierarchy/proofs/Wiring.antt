@@ -22,7 +22,7 @@ pub record Wired (nodes : List Node) (order : List ℕ) (n : ℕ) (gates : List 
   pub below : (i : ℕ) → i < k → get_or wires (get_or order i 0) 0 < n + length gates
   pub shows : (means : Meaning) (bits : List Bool) → length bits ≡ n → (i : ℕ) → i < k
       → cval means nodes bits k (get_or order i 0) ≡ Some
-          (get_or (wire_values means bits gates) (get_or wires (get_or order i 0) 0) false)
+      (get_or (wire_values means bits gates) (get_or wires (get_or order i 0) 0) false)
 
 -- the needs of the next signal are among those before it
 pub needs_before : (nodes : List Node) (order : List ℕ) → IsOrder (map needs nodes) order → (k : ℕ)
@@ -32,13 +32,16 @@ needs_before nodes order is k h x e i d l =
     let s = get_or order k 0 in
     let in' : s < length nodes = omega (arith, is.within k h, length-map nodes needs) in
     let row_is : row (map needs nodes) s ≡ needs x = get_or-map needs nodes s x [] in' ∙ ap needs
-        (sym e) in
+    (sym e) in
     let t = get_or (needs x) i d in
     let c = is.after k h t (subst (λ xs. Contains xs t) (sym row_is)
-        (i, l, get_or_default (needs x) i t d l)) in
-    let low : c.0 < k = omega (arith, length-take k order, c.1) in
-    (c.0, low, get_or_default order c.0 0 t (omega (arith, h, low)) ∙ sym
-        (get_or-take k order c.0 t low) ∙ c.2)
+    (i, l, get_or_default (needs x) i t d l)) in
+    let low : c.0 < k = omega (arith, length-take k order, c.1) in (
+      c.0,
+      low,
+      get_or_default order c.0 0 t (omega (arith, h, low)) ∙ sym
+          (get_or-take k order c.0 t low) ∙ c.2,
+    )
 
 map-map : {A B C : Type 0} (f : A → B) (g : B → C) (xs : List A)
     → map g (map f xs) ≡ map (λ x. g (f x)) xs
@@ -50,12 +53,12 @@ module _ (means : Meaning) (bits : List Bool) (n : ℕ) (wires : List ℕ) (old 
     (inputs : length bits ≡ n) (at : ℕ → Option Bool) where
   value_known : (x : Node) → IsNode n x → AddsNode n wires old new w x
       → All (λ t. at t ≡ Some (get_or (wire_values means bits old) (get_or wires t 0) false))
-          (needs x)
+      (needs x)
       → value_at means bits at x ≡ Some (get_or (wire_values means bits new) w false)
   value_known (node.Input i) is (e, f) known =
       let h : i < length bits = omega (arith, is, inputs) in
       slice_get-get_or bits i false h ∙ ap Some (sym (wire_first means bits new i h)) ∙ ap
-          (λ j. Some (get_or (wire_values means bits new) j false)) (sym e)
+      (λ j. Some (get_or (wire_values means bits new) j false)) (sym e)
   value_known (node.Alias t) is (e, f) known = known 0 0 (omega arith) ∙ ap
       (λ j. Some (get_or (wire_values means bits old) j false)) (sym e) ∙ ap
       (λ gs. Some (get_or (wire_values means bits gs) w false)) (sym f)
@@ -63,7 +66,7 @@ module _ (means : Meaning) (bits : List Bool) (n : ℕ) (wires : List ℕ) (old 
       let read : ℕ → Bool = λ t. get_or (wire_values means bits old) (get_or wires t 0) false in
       let gate : Gate = record { ins = map (slice_index wires) g.ins; cover = g.cover } in
       let ins : map (λ w. get_or (wire_values means bits old) w false) gate.ins ≡ map read g.ins =
-          map-map (slice_index wires) (λ w. get_or (wire_values means bits old) w false) g.ins in
+      map-map (slice_index wires) (λ w. get_or (wire_values means bits old) w false) g.ins in
       let z : w ≡ length bits + length old = omega (arith, e, inputs) in
       ap (option_map (means g.cover)) (all_known at read g.ins known)
       ∙ ap (λ bs. Some (means g.cover bs)) (sym ins)
@@ -79,8 +82,8 @@ adds_longer n wires old new w (node.Alias i) (e, f) =
     (omega (arith, ap length f), omega (arith, ap length f))
 adds_longer n wires old new w (node.Output g) (e, f) =
     let l = ap length f ∙ length_push old (record
-        { ins = map (slice_index wires) g.ins; cover = g.cover }) in
-        (omega (arith, l), omega (arith, l))
+    { ins = map (slice_index wires) g.ins; cover = g.cover }) in
+    (omega (arith, l), omega (arith, l))
 
 adds_kept : (means : Meaning) (bits : List Bool) (n : ℕ) (wires : List ℕ) (old new : List Gate)
     (w : ℕ) (x : Node) → AddsNode n wires old new w x → length bits ≡ n → (v : ℕ)
@@ -92,8 +95,8 @@ adds_kept means bits n wires old new w (node.Alias i) (e, f) inputs v h = ap
     (λ gs. get_or (wire_values means bits gs) v false) f
 adds_kept means bits n wires old new w (node.Output g) (e, f) inputs v h =
     ap (λ gs. get_or (wire_values means bits gs) v false) f ∙ wire_kept means bits old
-        (record { ins = map (slice_index wires) g.ins; cover = g.cover }) v
-        (omega (arith, h, inputs))
+    (record { ins = map (slice_index wires) g.ins; cover = g.cover }) v
+    (omega (arith, h, inputs))
 
 adds_lower : (n : ℕ) (wires : List ℕ) (old new : List Gate) (w : ℕ) (x : Node)
     → AddsNode n wires old new w x → IsNode n x
@@ -106,15 +109,17 @@ adds_lower n wires old new w (node.Alias t) (e, f) is known lower = let k = know
 adds_lower n wires old new w (node.Output g) (e, f) is known lower =
     let gate : Gate = record { ins = map (slice_index wires) g.ins; cover = g.cover } in
     let ins : All (λ w. w < n + length old) gate.ins = All-map (λ w. w < n + length old)
-        (slice_index wires) g.ins known in
-    (subst (UsesLower n) (sym f) (UsesLower-push n old gate lower ins), omega
-        (arith, e, ap length f ∙ length_push old gate))
+    (slice_index wires) g.ins known in (
+      subst (UsesLower n) (sym f) (UsesLower-push n old gate lower ins),
+      omega
+          (arith, e, ap length f ∙ length_push old gate),
+    )
 
 module _ (nodes : List Node) (order : List ℕ) (is : IsOrder (map needs nodes) order) (n : ℕ)
     (old new : List Gate) (wires : List ℕ) (k w : ℕ) (x : Node)
     (wired : Wired nodes order n old wires k) (h : k < length order)
-        (e : x ≡ get_or nodes (get_or order k 0) x) (ok : IsNode n x)
-        (adds : AddsNode n wires old new w x) where
+    (e : x ≡ get_or nodes (get_or order k 0) x) (ok : IsNode n x)
+    (adds : AddsNode n wires old new w x) where
   here : get_or (set wires (get_or order k 0) w) (get_or order k 0) 0 ≡ w
   here = get_or-set_same wires (get_or order k 0) w 0
       (omega (arith, is.within k h, length-map nodes needs, wired.full))
@@ -127,7 +132,7 @@ module _ (nodes : List Node) (order : List ℕ) (is : IsOrder (map needs nodes) 
   wired_lower : UsesLower n new × (w < n + length new)
   wired_lower = adds_lower n wires old new w x adds ok
       (λ i d l. let b = needs_before nodes order is k h x e i d l in subst
-          (λ t. get_or wires t 0 < n + length old) b.2 (wired.below b.0 b.1)) wired.lower
+      (λ t. get_or wires t 0 < n + length old) b.2 (wired.below b.0 b.1)) wired.lower
 
   pub wired_more : Wired nodes order n new (set wires (get_or order k 0) w) (k + 1)
   wired_more = record {
@@ -135,32 +140,34 @@ module _ (nodes : List Node) (order : List ℕ) (is : IsOrder (map needs nodes) 
     few = omega (arith, (adds_longer n wires old new w x adds).1, wired.few);
     lower = wired_lower.0;
     below = λ i l. elim (cases_eq i k) [
-        inl z ↦ subst (λ j. get_or (set wires (get_or order k 0) w) (get_or order j 0) 0 < n +
-            length new) (sym z) (omega (arith, here, wired_lower.1))
+      | inl z ↦ subst (λ j. get_or (set wires (get_or order k 0) w) (get_or order j 0) 0 < n +
+          length new) (sym z) (omega (arith, here, wired_lower.1))
       | inr ne ↦ let l' : i < k = omega arith in omega
-          (arith, before i l', wired.below i l', (adds_longer n wires old new w x adds).0) ];
+          (arith, before i l', wired.below i l', (adds_longer n wires old new w x adds).0)
+    ];
     shows = λ means bits inputs i l. elim (cases_eq i k) [
-        inl z ↦
+      | inl z ↦
           subst (λ j. cval means nodes bits (k + 1) (get_or order j 0) ≡ Some
-              (get_or (wire_values means bits new) (get_or (set wires (get_or order k 0) w)
-              (get_or order j 0) 0) false)) (sym z)
+          (get_or (wire_values means bits new) (get_or (set wires (get_or order k 0) w)
+          (get_or order j 0) 0) false)) (sym z)
           (cval_step means nodes bits k (get_or order k 0) x
-              (get_or (wire_values means bits new) w false)
-            (slice_get-get_or nodes (get_or order k 0) x
-                (omega (arith, is.within k h, length-map nodes needs)) ∙ ap Some (sym e))
-            (value_known means bits n wires old new w inputs (cval means nodes bits k) x ok adds
-              (λ i d l. let b = needs_before nodes order is k h x e i d l in
-                subst (λ t. cval means nodes bits k t ≡ Some
-                    (get_or (wire_values means bits old) (get_or wires t 0) false)) b.2
-                    (wired.shows means bits inputs b.0 b.1)))
-            ∙ ap (λ v. Some (get_or (wire_values means bits new) v false)) (sym here))
+          (get_or (wire_values means bits new) w false)
+          (slice_get-get_or nodes (get_or order k 0) x
+          (omega (arith, is.within k h, length-map nodes needs)) ∙ ap Some (sym e))
+          (value_known means bits n wires old new w inputs (cval means nodes bits k) x ok adds
+          (λ i d l. let b = needs_before nodes order is k h x e i d l in
+          subst (λ t. cval means nodes bits k t ≡ Some
+          (get_or (wire_values means bits old) (get_or wires t 0) false)) b.2
+          (wired.shows means bits inputs b.0 b.1)))
+          ∙ ap (λ v. Some (get_or (wire_values means bits new) v false)) (sym here))
       | inr ne ↦
           let l' : i < k = omega arith in
           cval_up means nodes bits k (k + 1) (get_or order i 0) _ (omega arith)
-              (wired.shows means bits inputs i l')
+          (wired.shows means bits inputs i l')
           ∙ ap Some (sym (adds_kept means bits n wires old new w x adds inputs
-              (get_or wires (get_or order i 0) 0) (wired.below i l')))
-          ∙ ap (λ v. Some (get_or (wire_values means bits new) v false)) (sym (before i l')) ];
+          (get_or wires (get_or order i 0) 0) (wired.below i l')))
+          ∙ ap (λ v. Some (get_or (wire_values means bits new) v false)) (sym (before i l'))
+    ];
   }
 
 -- at the end every signal is shown
@@ -172,8 +179,8 @@ module _ (nodes : List Node) (order : List ℕ) (is : IsOrder (map needs nodes) 
       let at = is.every s (omega (arith, h, length-map nodes needs)) in
       let e = get_or_default order at.0 0 s at.1 ∙ at.2 in
       let old = subst (λ t. cval means nodes bits k t ≡ Some
-          (get_or (wire_values means bits gates) (get_or wires t 0) false)) e
-          (wired.shows means bits inputs at.0 (omega (arith, at.1, all))) in
+      (get_or (wire_values means bits gates) (get_or wires t 0) false)) e
+      (wired.shows means bits inputs at.0 (omega (arith, at.1, all))) in
       cval_up means nodes bits k m s _ (omega (arith, l, all, is.whole, length-map nodes needs)) old
 
   pub all_below : (s : ℕ) → s < length nodes → get_or wires s 0 < n + length gates
@@ -181,7 +188,7 @@ module _ (nodes : List Node) (order : List ℕ) (is : IsOrder (map needs nodes) 
       let at = is.every s (omega (arith, h, length-map nodes needs)) in
       let e = get_or_default order at.0 0 s at.1 ∙ at.2 in
       subst (λ t. get_or wires t 0 < n + length gates) e
-          (wired.below at.0 (omega (arith, at.1, all)))
+      (wired.below at.0 (omega (arith, at.1, all)))
 
 -- the needs of the next signal are signals
 pub needs_within : (nodes : List Node) (order : List ℕ) → IsOrder (map needs nodes) order → (k : ℕ)

@@ -23,7 +23,7 @@ abbrev pub ShowsHierarchy : List Block → ℕ → List Gate → List ℕ → �
 ShowsHierarchy blocks n gates wires s =
     (means : Meaning) (bits : List Bool) → length bits ≡ n → (m : ℕ) → length wires ≤ m
     → hval means blocks bits m [] s
-        ≡ Some (slice_index_or (wire_values means bits gates) (slice_index wires s) false)
+    ≡ Some (slice_index_or (wire_values means bits gates) (slice_index wires s) false)
 
 -- the first block
 abbrev pub root_of : List Block → Block

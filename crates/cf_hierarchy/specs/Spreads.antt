@@ -62,9 +62,9 @@ pub record HasCalls (blocks : List Block) (copies : List Instance) (first i : �
   pub called : (j : ℕ) (c : Call)
       → slice_get (block_of blocks (instance_at copies i)).calls j ≡ Some c
       → (first + j < length copies)
-          × ((instance_at copies (first + j)).block ≡ c.block)
-          × ((instance_at copies (first + j)).parent ≡ i)
-          × ((instance_at copies (first + j)).place ≡ j)
+      × ((instance_at copies (first + j)).block ≡ c.block)
+      × ((instance_at copies (first + j)).parent ≡ i)
+      × ((instance_at copies (first + j)).place ≡ j)
 
 -- all copies of the hierarchy
 pub record IsSpread (blocks : List Block) (copies : List Instance) (firsts : List ℕ) : Type 0 where
@@ -79,7 +79,7 @@ HasNodes blocks copies firsts nodes =
     (i s : ℕ) (d : Driver) → i < length copies
     → slice_get (block_of blocks (instance_at copies i)).drivers s ≡ Some d
     → slice_get nodes ((instance_at copies i).base + s)
-        ≡ Some (node_of blocks copies (slice_index firsts i) i d)
+    ≡ Some (node_of blocks copies (slice_index firsts i) i d)
 
 -- the copies that calls make, the first call at `place`, and the first signal with the number `base`
 abbrev pub made : List Block → ℕ → ℕ → ℕ → List Call → List Instance
@@ -87,7 +87,7 @@ made blocks parent place base [] = []
 made blocks parent place base (c ∷ cs) =
     record { block = c.block; parent = parent; place = place; base = base }
     ∷ made blocks parent (suc place)
-        (base + length (slice_index_or blocks c.block no_block).drivers) cs
+    (base + length (slice_index_or blocks c.block no_block).drivers) cs
 
 -- the number behind the last signal of those copies
 abbrev pub made_end : List Block → ℕ → List Call → ℕ

@@ -4,8 +4,8 @@ ghost use Rattle.std.specs.Prelude.{◌≡◌, ℕ, ◌+◌, ◌<◌, ◌≤◌,
 ghost use Rattle.cf_order.specs.Orders.{IsOrder};
 ghost use Rattle.cf_hierarchy.specs.Circuits.{needs, IsNode, UsesLower, HaveWires, ShowAll, AddsNode};
 
-use crate::gates::{Gate, Gates, Node};
 use crate::NoMemory;
+use crate::gates::{Gate, Gates, Node};
 use cf_order::Wires;
 use std::alloc::Global;
 

@@ -8,12 +8,12 @@ ghost use Rattle.cf_hierarchy.specs.Spreads.{IsAtMostDeep};
 ghost use Rattle.cf_hierarchy.specs.declared.flattening.FlatFault.{FlatFault};
 ghost use Rattle.cf_hierarchy.specs.Flattening.{IsRootInput, root_of, ShowRoot, IsCycle, HasCycle};
 
+use crate::NoMemory;
 use crate::blocks::Block;
 use crate::flat::{Flat, flat_of};
 use crate::gates::Node;
 use crate::nodes::nodes_of;
 use crate::spread::copies_of;
-use crate::NoMemory;
 use cf_order::{OrderFault, Wires, order_of};
 use std::alloc::Global;
 
@@ -37,12 +37,7 @@ impl From<NoMemory> for FlatFault {
 }
 
 /// The flat circuit of a hierarchy whose paths have at most so many calls.
-pub fn flatten(
-    alloc: Global,
-    blocks: &[Block],
-    inputs: u64,
-    levels: u64,
-) -> Result<Flat, FlatFault>
+pub fn flatten(alloc: Global, blocks: &[Block], inputs: u64, levels: u64) -> Result<Flat, FlatFault>
     requires some { 0 < length blocks.now }
     requires blocks { All (IsBlock blocks.now) blocks.now }
     requires inputs { All (IsRootInput inputs) (root_of blocks.now).drivers }

@@ -7,11 +7,11 @@ ghost use Rattle.cf_hierarchy.specs.Hierarchy.{IsBlock};
 ghost use Rattle.cf_hierarchy.specs.Flattening.{IsRootInput, root_of, ShowRoot};
 ghost use Rattle.cf_hierarchy.specs.Links.{called, calls, HasNoFault, HasFault};
 
+use crate::NoMemory;
 use crate::blocks::{Block, Call};
 use crate::flat::Flat;
 use crate::flattening::{FlatFault, flatten};
 use crate::sizes::sizes_of;
-use crate::NoMemory;
 use cf_order::{OrderFault, Wires, order_of};
 use std::alloc::Global;
 

@@ -7,11 +7,11 @@ ghost use Rattle.cf_hierarchy.specs.declared.blocks.Driver.TheVariants as drive;
 ghost use Rattle.cf_hierarchy.specs.Hierarchy.{IsBlock};
 ghost use Rattle.cf_hierarchy.specs.Spreads.{block_of, instance_at, formal_node, node_of, nodes_from, Grown, IsReached};
 
+use crate::NoMemory;
 use crate::blocks::{Block, Driver};
 use crate::gates::{Gate, Node};
 use crate::instances::Instance;
 use crate::spread::Spread;
-use crate::NoMemory;
 use cf_order::Wires;
 use std::alloc::{AllocError, Global};
 

@@ -5,9 +5,9 @@ ghost use Rattle.cf_order.specs.Orders.{row};
 ghost use Rattle.cf_hierarchy.specs.Hierarchy.{block_at, IsBlock};
 ghost use Rattle.cf_hierarchy.specs.Spreads.{made, made_end, block_of, instance_at, IsSpread, Grown, IsAtMostDeep};
 
+use crate::NoMemory;
 use crate::blocks::{Block, Call};
 use crate::instances::{Instance, Instances};
-use crate::NoMemory;
 use cf_order::Wires;
 use std::alloc::{AllocError, Global};
 

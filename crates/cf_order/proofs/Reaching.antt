@@ -64,37 +64,44 @@ visits_new done old new before after t v no' h =
     let l : t < length new = omega (arith, h, v.full) in
     let here : IsSeen (set new t true) t = get_or-set_same new t true false l in
     let other : (x : ℕ) → x ≢ t → get_or (set new t true) x false ≡ get_or new x false = λ x ne.
-        get_or-set_other new t x true false ne in
+    get_or-set_other new t x true false ne in
     let kept : (x : ℕ) → IsSeen new x → IsSeen (set new t true) x = λ x s. elim (cases_eq x t) [
-        inl e ↦ subst (λ y. IsSeen (set new t true) y) (sym e) here
-      | inr ne ↦ other x ne ∙ s ] in
+      | inl e ↦ subst (λ y. IsSeen (set new t true) y) (sym e) here
+      | inr ne ↦ other x ne ∙ s
+    ] in
     let last : get_or (after ++ t ∷ []) (length after) 0 ≡ t = get_or_push after t 0 (length after)
-        refl in
+    refl in
     record {
       full = length-set new t true ∙ v.full;
       count = omega (arith, v.count, trues-set new t l no', length_push after t);
       all = All-push (λ x. IsSeen (set new t true) x) done t (λ k d w. kept _ (v.all k d w)) here;
       kept = λ x s. kept x (v.kept x s);
       only = λ x s no. elim (cases_eq x t) [
-          inl e ↦ subst (λ y. Contains (done ++ t ∷ []) y) (sym e) (Contains-push done t)
-        | inr ne ↦ Contains-append_left done (t ∷ []) x (v.only x (sym (other x ne) ∙ s) no) ];
+        | inl e ↦ subst (λ y. Contains (done ++ t ∷ []) y) (sym e) (Contains-push done t)
+        | inr ne ↦ Contains-append_left done (t ∷ []) x (v.only x (sym (other x ne) ∙ s) no)
+      ];
       longer = omega (arith, v.longer, length_push after t);
       front = λ k w. get_or_append_left after (t ∷ []) 0 k (omega (arith, w, v.longer)) ∙ v.front k
           w;
       behind = λ k a b. elim (cases_lt k (length after)) [
-          inl w ↦
+        | inl w ↦
             let q = v.behind k a w in let e = get_or_append_left after (t ∷ []) 0 k w in
             subst (λ y. Contains (done ++ t ∷ []) y × IsSeen (set new t true) y) (sym e)
-                (Contains-append_left done (t ∷ []) (slice_index after k) q.0, kept _ q.1)
+            (Contains-append_left done (t ∷ []) (slice_index after k) q.0, kept _ q.1)
         | inr g ↦
             let z : length after ≡ k = omega (arith, length_push after t) in
             subst (λ y. Contains (done ++ t ∷ []) y × IsSeen (set new t true) y)
-                (sym (get_or_push after t 0 k z)) (Contains-push done t, here) ];
+            (sym (get_or_push after t 0 k z)) (Contains-push done t, here)
+      ];
       listed = λ x s no. elim (cases_eq x t) [
-          inl e ↦ (length after, omega (arith, length_push after t), last ∙ sym e)
-        | inr ne ↦ let w = v.listed x (sym (other x ne) ∙ s) no in
-            (w.0, omega (arith, w.1, length_push after t), get_or_append_left after (t ∷ []) 0 w.0
-            w.1 ∙ w.2) ];
+        | inl e ↦ (length after, omega (arith, length_push after t), last ∙ sym e)
+        | inr ne ↦ let w = v.listed x (sym (other x ne) ∙ s) no in (
+          w.0,
+          omega (arith, w.1, length_push after t),
+          get_or_append_left after (t ∷ []) 0 w.0
+              w.1 ∙ w.2,
+        )
+      ];
     }
 
 -- what was put into the queue is what was met, and what the first i of it need is met
@@ -116,7 +123,7 @@ pub reaching_zero : (rows : List (List ℕ)) (from : ℕ) (seen : List Bool) (qu
 reaching_zero rows from seen queue h e f =
     let n = length rows in
     let no : (t : ℕ) → IsSeen (replicate n false) t
-        → ⊥ = λ t s. false≢true (sym (none_seen n t) ∙ s) in
+    → ⊥ = λ t s. false≢true (sym (none_seen n t) ∙ s) in
     let start : Reaching rows from (replicate n false) (from ∷ []) 0 = record {
       full = length-replicate n false;
       count = omega (arith, no_trues n);
@@ -129,7 +136,7 @@ reaching_zero rows from seen queue h e f =
       closed = λ k t w. absurd (omega arith);
     } in
     subst (λ s. Reaching rows from s queue 0) (sym e)
-        (subst (λ q. Reaching rows from (replicate n false) q 0) (sym f) start)
+    (subst (λ q. Reaching rows from (replicate n false) q 0) (sym f) start)
 
 chain_push : (rows : List (List ℕ)) (a : ℕ) (rest : List ℕ) (c b : ℕ) → Chain rows a rest c
     → Needs rows c b → Chain rows a (rest ++ c ∷ []) b
@@ -140,43 +147,49 @@ pub reaching_more : (rows : List (List ℕ)) (from : ℕ) (seen new : List Bool)
     (queue after needs : List ℕ) (i : ℕ) → All (All (λ t. t < length rows)) rows
     → Reaching rows from seen queue i → i < length queue
     → needs ≡ row rows (slice_index queue i) → Visits needs seen new queue after
-        → Reaching rows from new after (i + 1)
+    → Reaching rows from new after (i + 1)
 reaching_more rows from seen new queue after needs i below r h is visited =
     let s = slice_index queue i in
     let v = subst (λ ns. Visits ns seen new queue after) is visited in
     let need_low : (t : ℕ) → Contains (row rows s) t → t < length rows = λ t c.
-      omega (arith, below s [] (r.within i h) c.0 t c.1, c.2) in
+    omega (arith, below s [] (r.within i h) c.0 t c.1, c.2) in
     let here : (t : ℕ) → Needs rows s t → (rest : List ℕ) × Chain rows from rest t = λ t n. elim
-        (cases_eq i 0) [
-        inl z ↦ ([], subst (λ a. Needs rows a t) (ap (slice_index queue) z ∙ r.first) n)
+    (cases_eq i 0) [
+      | inl z ↦ ([], subst (λ a. Needs rows a t) (ap (slice_index queue) z ∙ r.first) n)
       | inr nz ↦ let q = r.reached s (r.queued i (omega arith) h) in
-          (q.0 ++ s ∷ [], chain_push rows from q.0 s t q.1 n) ] in
+          (q.0 ++ s ∷ [], chain_push rows from q.0 s t q.1 n)
+    ] in
     let unseen : (t : ℕ) → get_or seen t false ≡ false → IsSeen seen t
-        → ⊥ = λ t e q. false≢true (sym e ∙ q) in
+    → ⊥ = λ t e q. false≢true (sym e ∙ q) in
     record {
       full = v.full ∙ r.full;
       count = omega (arith, v.count, r.count);
       first = v.front 0 (omega (arith, r.count)) ∙ r.first;
       within = λ k w. elim (cases_lt k (length queue)) [
-          inl l ↦ omega (arith, v.front k l, r.within k l)
-        | inr g ↦ need_low (slice_index after k) (v.behind k g w).0 ];
+        | inl l ↦ omega (arith, v.front k l, r.within k l)
+        | inr g ↦ need_low (slice_index after k) (v.behind k g w).0
+      ];
       reached = λ t q. elim (cases_Bool (get_or seen t false)) [
-          inl y ↦ r.reached t y
-        | inr n ↦ here t (v.only t q (unseen t n)) ];
+        | inl y ↦ r.reached t y
+        | inr n ↦ here t (v.only t q (unseen t n))
+      ];
       queued = λ k low w. elim (cases_lt k (length queue)) [
-          inl l ↦ subst (IsSeen new) (sym (v.front k l)) (v.kept _ (r.queued k low l))
-        | inr g ↦ (v.behind k g w).1 ];
+        | inl l ↦ subst (IsSeen new) (sym (v.front k l)) (v.kept _ (r.queued k low l))
+        | inr g ↦ (v.behind k g w).1
+      ];
       listed = λ t q. elim (cases_Bool (get_or seen t false)) [
-          inl y ↦ let k = r.listed t y in (k.0, omega (arith, k.1, v.longer), v.front k.0 k.1 ∙ k.2)
-        | inr n ↦ v.listed t q (unseen t n) ];
+        | inl y ↦ let k = r.listed t y in (k.0, omega (arith, k.1, v.longer), v.front k.0 k.1 ∙ k.2)
+        | inr n ↦ v.listed t q (unseen t n)
+      ];
       closed = λ k t low w n. elim (cases_eq k i) [
-          inl z ↦
+        | inl z ↦
             let e : slice_index after k ≡ s = v.front k (omega (arith, z, h)) ∙ ap
-                (slice_index queue) z in
+            (slice_index queue) z in
             All-contains (λ t. IsSeen new t) (row rows s) t v.all (subst (λ a. Needs rows a t) e n)
         | inr ne ↦
             let l : k < length queue = omega (arith, low, h) in
-            v.kept t (r.closed k t (omega arith) l (subst (λ a. Needs rows a t) (v.front k l) n)) ];
+            v.kept t (r.closed k t (omega arith) l (subst (λ a. Needs rows a t) (v.front k l) n))
+      ];
     }
 
 module _ (rows : List (List ℕ)) (from : ℕ) (seen : List Bool) (queue : List ℕ) (i : ℕ)
@@ -213,15 +226,15 @@ pub visit_seen : (needs : List ℕ) (i : ℕ) (old new : List Bool) (before afte
     → Visits (take (i + 1) needs) old new before after
 visit_seen needs i old new before after v h s =
     subst (λ ns. Visits ns old new before after) (sym (take_more needs i 0 h))
-        (visits_seen (take i needs) old new before after (get_or needs i 0) v s)
+    (visits_seen (take i needs) old new before after (get_or needs i 0) v s)
 
 pub visit_new : (needs : List ℕ) (i : ℕ) (old new : List Bool) (before after last : List ℕ)
     → Visits (take i needs) old new before after → i < length needs
     → get_or new (get_or needs i 0) false ≡ false → get_or needs i 0 < length old
     → last ≡ after ++ get_or needs i 0 ∷ [] → Visits (take (i + 1) needs) old (set new
-        (get_or needs i 0) true) before last
+    (get_or needs i 0) true) before last
 visit_new needs i old new before after last v h s l e =
     subst (λ q. Visits (take (i + 1) needs) old (set new (get_or needs i 0) true) before q) (sym e)
     (subst (λ ns. Visits ns old (set new (get_or needs i 0) true) before
-        (after ++ get_or needs i 0 ∷ [])) (sym (take_more needs i 0 h))
-        (visits_new (take i needs) old new before after (get_or needs i 0) v s l))
+    (after ++ get_or needs i 0 ∷ [])) (sym (take_more needs i 0 h))
+    (visits_new (take i needs) old new before after (get_or needs i 0) v s l))

@@ -6,9 +6,11 @@ use Rattle.cf_order.specs.Orders.{row, Needs, Chain, IsRing, IsOrder, HasNoRing}
 
 -- what needs something is one of the signals
 needs_within : (rows : List (List ℕ)) (s t : ℕ) → Needs rows s t → s < length rows
-needs_within rows s t n = elim (cases_lt s (length rows))
-    [ inl l ↦ l | inr g ↦ let e = ap length (get_or_past rows s [] g) in absurd
-    (omega (arith, n.1, e)) ]
+needs_within rows s t n = elim (cases_lt s (length rows)) [
+  | inl l ↦ l
+  | inr g ↦ let e = ap length (get_or_past rows s [] g) in absurd
+      (omega (arith, n.1, e))
+]
 
 -- what a signal at a place of the order needs, stands at a lower place
 need_falls : (rows : List (List ℕ)) (order : List ℕ) → IsOrder rows order → (i a b : ℕ)
@@ -16,9 +18,12 @@ need_falls : (rows : List (List ℕ)) (order : List ℕ) → IsOrder rows order 
     → (j : ℕ) × (j < i) × (get_or order j 0 ≡ b)
 need_falls rows order is i a b h e n =
     let c = is.after i h b (subst (λ s. Needs rows s b) (sym e) n) in
-    let l : c.0 < i = omega (arith, length-take i order, c.1) in
-    (c.0, l, get_or_default order c.0 0 b (omega (arith, h, l)) ∙ sym (get_or-take i order c.0 b l)
-        ∙ c.2)
+    let l : c.0 < i = omega (arith, length-take i order, c.1) in (
+      c.0,
+      l,
+      get_or_default order c.0 0 b (omega (arith, h, l)) ∙ sym (get_or-take i order c.0 b l)
+          ∙ c.2,
+    )
 
 -- and so does the end of a chain
 chain_falls : (rows : List (List ℕ)) (order : List ℕ) → IsOrder rows order

@@ -31,12 +31,16 @@ pub top_open : (rows : List (List ℕ)) (w : Progress) (f : Frame) → Sound row
     → mark_of w f.signal ≡ mark.Open (length w.stack - 1)
 top_open rows w f sound top = let i = length w.stack - 1 in
     subst (λ (g : Frame). mark_of w g.signal ≡ mark.Open i)
-        (top_at w f top i (omega (arith, top.0))) (sound.opened i (omega (arith, top.0)))
+    (top_at w f top i (omega (arith, top.0))) (sound.opened i (omega (arith, top.0)))
 
 pub top_within : (rows : List (List ℕ)) (w : Progress) (f : Frame) → Sound rows w → top_of w f
     → f.signal < length rows
-top_within rows w f sound top = omega (arith, seen_within w f.signal
-    (λ n. let o = top_open rows w f sound top in cc), sound.full)
+top_within rows w f sound top = omega (
+  arith,
+  seen_within w f.signal
+      (λ n. let o = top_open rows w f sound top in cc),
+  sound.full,
+)
 
 pub need_within : (rows : List (List ℕ)) (s k : ℕ) → All (All (λ t. t < length rows)) rows
     → s < length rows → k < length (row rows s) → need rows s k < length rows
@@ -50,22 +54,25 @@ needs_at rows s k t h e = (k, h, get_or_default (row rows s) k t 0 h ∙ e)
 pub top_link : (rows : List (List ℕ)) (w : Progress) (f : Frame) → top_of w f
     → f.next < length (row rows f.signal)
     → (i : ℕ) → i + 1 ≡ length w.stack → ((frame_at w i).next < length
-        (row rows (frame_at w i).signal)) × (need rows (frame_at w i).signal (frame_at w i).next ≡
-        need rows f.signal f.next)
+    (row rows (frame_at w i).signal)) × (need rows (frame_at w i).signal (frame_at w i).next ≡
+    need rows f.signal f.next)
 top_link rows w f top more i e =
     subst (λ (g : Frame). (g.next < length (row rows g.signal)) ×
-        (need rows g.signal g.next ≡ need rows f.signal f.next)) (sym (top_at w f top i e))
-        (more, refl)
+    (need rows g.signal g.next ≡ need rows f.signal f.next)) (sym (top_at w f top i e))
+    (more, refl)
 
 -- a list in which each needs the next, and the last needs b
 pub chain_of : (rows : List (List ℕ)) (a : ℕ) (rest : List ℕ) (b : ℕ)
     → ((i : ℕ) → suc i < length (a ∷ rest) → Needs rows (get_or (a ∷ rest) i 0) (get_or (a ∷ rest)
-        (suc i) 0))
+    (suc i) 0))
     → ((i : ℕ) → suc i ≡ length (a ∷ rest) → Needs rows (get_or (a ∷ rest) i 0) b)
-        → Chain rows a rest b
+    → Chain rows a rest b
 chain_of rows a [] b steps last = last 0 refl
-chain_of rows a (c ∷ cs) b steps last = (steps 0 (omega arith), chain_of rows c cs b
-    (λ i h. steps (suc i) (omega (arith, h))) (λ i e. last (suc i) (ap suc e)))
+chain_of rows a (c ∷ cs) b steps last = (
+  steps 0 (omega arith),
+  chain_of rows c cs b
+      (λ i h. steps (suc i) (omega (arith, h))) (λ i e. last (suc i) (ap suc e)),
+)
 
 pub ring_of : (rows xs : _) → 0 < length xs
     → ((i : ℕ) → suc i < length xs → Needs rows (get_or xs i 0) (get_or xs (suc i) 0))
@@ -77,30 +84,30 @@ ring_of rows (a ∷ rest) h steps last = chain_of rows a rest a steps last
 pub ring_found : (rows : List (List ℕ)) (w : Progress) (f : Frame) (d : ℕ) → Sound rows w
     → top_of w f → f.next < length (row rows f.signal)
     → mark_of w (need rows f.signal f.next) ≡ mark.Open d
-        → IsRing rows (map (λ f. f.signal) (drop d w.stack))
+    → IsRing rows (map (λ f. f.signal) (drop d w.stack))
 ring_found rows w f d sound top more here =
     let old = sound.is_open _ d here in
     let signal : Frame → ℕ = λ f. f.signal in
     let xs = map signal (drop d w.stack) in
     let n : length xs + d ≡ length w.stack = omega
-        (arith, length-map (drop d w.stack) signal, length-drop d w.stack, old.0) in
+    (arith, length-map (drop d w.stack) signal, length-drop d w.stack, old.0) in
     let at : (i : ℕ) → i < length xs → get_or xs i 0 ≡ (frame_at w (d + i)).signal =
-      λ i h. get_or-map signal (drop d w.stack) i (frame 0 0) 0
-          (omega (arith, length-map (drop d w.stack) signal)) ∙ ap signal
-          (get_or-drop d w.stack i (frame 0 0)) in
+    λ i h. get_or-map signal (drop d w.stack) i (frame 0 0) 0
+    (omega (arith, length-map (drop d w.stack) signal)) ∙ ap signal
+    (get_or-drop d w.stack i (frame 0 0)) in
     ring_of rows xs (omega (arith, old.0))
     (λ i h.
-      let c = sound.chain (d + i) (omega arith) in
-      let z : (d + i) + 1 ≡ d + suc i = omega arith in
-      subst (λ s. Needs rows s (get_or xs (suc i) 0)) (sym (at i (omega (arith, h))))
-      (needs_at rows _ _ _ c.0 (c.1 ∙ ap (λ (j : ℕ). (frame_at w j).signal) z ∙ sym
-          (at (suc i) h))))
+    let c = sound.chain (d + i) (omega arith) in
+    let z : (d + i) + 1 ≡ d + suc i = omega arith in
+    subst (λ s. Needs rows s (get_or xs (suc i) 0)) (sym (at i (omega (arith, h))))
+    (needs_at rows _ _ _ c.0 (c.1 ∙ ap (λ (j : ℕ). (frame_at w j).signal) z ∙ sym
+    (at (suc i) h))))
     (λ i e.
-      let l = top_link rows w f top more (d + i) (omega arith) in
-      let z : d + 0 ≡ d = omega arith in
-      subst (λ s. Needs rows s (get_or xs 0 0)) (sym (at i (omega (arith, e))))
-      (needs_at rows _ _ _ l.0 (l.1 ∙ sym (at 0 (omega (arith, old.0)) ∙ ap
-          (λ (j : ℕ). (frame_at w j).signal) z ∙ old.1))))
+    let l = top_link rows w f top more (d + i) (omega arith) in
+    let z : d + 0 ≡ d = omega arith in
+    subst (λ s. Needs rows s (get_or xs 0 0)) (sym (at i (omega (arith, e))))
+    (needs_at rows _ _ _ l.0 (l.1 ∙ sym (at 0 (omega (arith, old.0)) ∙ ap
+    (λ (j : ℕ). (frame_at w j).signal) z ∙ old.1))))
 
 dones-all : (ms : List Mark) → ((s : ℕ) → s < length ms → IsDone (get_or ms s mark.New))
     → dones ms ≡ length ms
@@ -114,27 +121,35 @@ pub order_found : (rows : List (List ℕ)) (w : Progress) (n : ℕ) → length r
 order_found rows w n all rooted =
     let sound = rooted.sound in
     let done : (s : ℕ) → s < length rows → IsDone (mark_of w s) = λ s h. elim (mark_cases
-        (mark_of w s)) [
-        inl new ↦ absurd (rooted.seen s (omega arith) new)
+    (mark_of w s)) [
+      | inl new ↦ absurd (rooted.seen s (omega arith) new)
       | inr (inl on) ↦ let z = ap length rooted.empty in absurd
           (omega (arith, (sound.is_open s on.0 on.1).0, z))
-      | inr (inr d) ↦ d ] in
+      | inr (inr d) ↦ d
+    ] in
     record {
       whole = sym sound.counted ∙ dones-all w.marks (λ s h. done s (omega (arith, h, sound.full))) ∙
           sound.full;
-      within = λ i h. omega (arith, seen_within w (get_or w.order i 0)
-          (λ new. let p = sound.placed i h in cc), sound.full);
+      within = λ i h. omega (
+        arith,
+        seen_within w (get_or w.order i 0)
+            (λ new. let p = sound.placed i h in cc),
+        sound.full,
+      );
       every = λ s h. let d = done s h in let o = sound.is_done s d.0 d.1 in
           (d.0, o.0, get_or_default w.order d.0 s 0 o.0 ∙ o.1);
       once = λ i j h k e. let p = sound.placed i h in let q = sound.placed j k in let m = ap
           (λ s. mark_of w s) e in cc;
       after = λ i h t (k, hk, e).
-        let a = sound.after i k h hk in
-        let o = sound.is_done _ a.0 a.2 in
-        let l : a.0 < length (take i w.order) = omega
-            (arith, length-take-le i w.order (omega (arith, h)), a.1) in
-        (a.0, l, get_or-take i w.order a.0 t a.1 ∙ get_or_default w.order a.0 t 0 o.0 ∙ o.1 ∙
-            get_or_default (row rows (get_or w.order i 0)) k 0 t hk ∙ e);
+          let a = sound.after i k h hk in
+          let o = sound.is_done _ a.0 a.2 in
+          let l : a.0 < length (take i w.order) = omega
+          (arith, length-take-le i w.order (omega (arith, h)), a.1) in (
+            a.0,
+            l,
+            get_or-take i w.order a.0 t a.1 ∙ get_or_default w.order a.0 t 0 o.0 ∙ o.1 ∙
+                get_or_default (row rows (get_or w.order i 0)) k 0 t hk ∙ e,
+          );
     }
 
 -- a turn of the walk: f is at hand, and ys is what it needs
@@ -146,68 +161,85 @@ pub record Here (rows : List (List ℕ)) (w : Progress) (f : Frame) (ys : List �
 
 pub here : (rows : List (List ℕ)) (w : Progress) (f : Frame) (ys : List ℕ) → Sound rows w
     → top_of w f → ys ≡ row rows f.signal → Here rows w f ys
-here rows w f ys sound top is = record { sound = sound; top = top; within = top_within rows w f
-    sound top; is = is }
+here rows w f ys sound top is = record {
+  sound = sound;
+  top = top;
+  within = top_within rows w f
+      sound top;
+  is = is;
+}
 
 module _ (rows : List (List ℕ)) (w : Progress) (f : Frame) (ys : List ℕ) (turn : Here rows w f ys)
-    where
-  row_length : length ys ≡ length (row rows f.signal)
-  row_length = ap length turn.is
+  where
+    row_length : length ys ≡ length (row rows f.signal)
+    row_length = ap length turn.is
 
-  need_is : get_or ys f.next 0 ≡ need rows f.signal f.next
-  need_is = ap (λ zs. get_or zs f.next 0) turn.is
+    need_is : get_or ys f.next 0 ≡ need rows f.signal f.next
+    need_is = ap (λ zs. get_or zs f.next 0) turn.is
 
-  pub need_here : All (All (λ t. t < length rows)) rows → f.next < length ys
-      → get_or ys f.next 0 < length w.marks
-  need_here below h = omega (arith, turn.sound.full, need_is, need_within rows f.signal f.next below
-      turn.within (omega (arith, row_length)))
+    pub need_here : All (All (λ t. t < length rows)) rows → f.next < length ys
+        → get_or ys f.next 0 < length w.marks
+    need_here below h = omega (
+      arith,
+      turn.sound.full,
+      need_is,
+      need_within rows f.signal f.next below
+          turn.within (omega (arith, row_length)),
+    )
 
-  pub turn_new : (v : Progress) → All (All (λ t. t < length rows)) rows → f.next < length ys
-      → mark.New ≡ mark_of w (get_or ys f.next 0) → v ≡ entered w (get_or ys f.next 0)
-      → Sound rows v × Keeps w v × (work rows v < work rows w)
-  turn_new v below h new e =
-    let t = get_or ys f.next 0 in
-    let more : f.next < length (row rows f.signal) = omega (arith, row_length) in
-    let fits : t < length rows = omega (arith, turn.sound.full, need_here below h) in
-    subst (λ v. Sound rows v × Keeps w v × (work rows v < work rows w)) (sym e)
-    (sound_entered rows w t turn.sound fits (sym new)
-        (λ i z. let l = top_link rows w f turn.top more i z in (l.0, l.1 ∙ sym need_is)),
-     keeps_entered rows w t turn.sound fits (sym new)
-         (λ i z. let l = top_link rows w f turn.top more i z in (l.0, l.1 ∙ sym need_is)),
-     work_entered rows w t turn.sound.full fits (sym new))
+    pub turn_new : (v : Progress) → All (All (λ t. t < length rows)) rows → f.next < length ys
+        → mark.New ≡ mark_of w (get_or ys f.next 0) → v ≡ entered w (get_or ys f.next 0)
+        → Sound rows v × Keeps w v × (work rows v < work rows w)
+    turn_new v below h new e =
+        let t = get_or ys f.next 0 in
+        let more : f.next < length (row rows f.signal) = omega (arith, row_length) in
+        let fits : t < length rows = omega (arith, turn.sound.full, need_here below h) in
+        subst (λ v. Sound rows v × Keeps w v × (work rows v < work rows w)) (sym e) (
+          sound_entered rows w t turn.sound fits (sym new)
+              (λ i z. let l = top_link rows w f turn.top more i z in (l.0, l.1 ∙ sym need_is)),
+          keeps_entered rows w t turn.sound fits (sym new)
+              (λ i z. let l = top_link rows w f turn.top more i z in (l.0, l.1 ∙ sym need_is)),
+          work_entered rows w t turn.sound.full fits (sym new),
+        )
 
-  pub turn_done : (v : Progress) (j : ℕ) → f.next < length ys
-      → mark.Done j ≡ mark_of w (get_or ys f.next 0) → v ≡ passed w f
-      → Sound rows v × Keeps w v × (work rows v < work rows w)
-  turn_done v j h done e =
-    let more : f.next < length (row rows f.signal) = omega (arith, row_length) in
-    subst (λ v. Sound rows v × Keeps w v × (work rows v < work rows w)) (sym e)
-    (sound_passed rows w f turn.sound turn.top more
-        (j, ap (λ s. mark_of w s) (sym need_is) ∙ sym done), (λ s seen. seen), work_passed rows w f
-        turn.top more)
+    pub turn_done : (v : Progress) (j : ℕ) → f.next < length ys
+        → mark.Done j ≡ mark_of w (get_or ys f.next 0) → v ≡ passed w f
+        → Sound rows v × Keeps w v × (work rows v < work rows w)
+    turn_done v j h done e =
+        let more : f.next < length (row rows f.signal) = omega (arith, row_length) in
+        subst (λ v. Sound rows v × Keeps w v × (work rows v < work rows w)) (sym e) (
+          sound_passed rows w f turn.sound turn.top more
+              (j, ap (λ s. mark_of w s) (sym need_is) ∙ sym done),
+          (λ s seen. seen),
+          work_passed rows w f
+              turn.top more,
+        )
 
-  pub turn_ring : (d : ℕ) → f.next < length ys → mark.Open d ≡ mark_of w (get_or ys f.next 0)
-      → (d < length w.stack) × IsRing rows (map (λ f. f.signal) (drop d w.stack))
-  turn_ring d h on =
-    let more : f.next < length (row rows f.signal) = omega (arith, row_length) in
-    let m = ap (λ s. mark_of w s) (sym need_is) ∙ sym on in
-    ((turn.sound.is_open _ d m).0, ring_found rows w f d turn.sound turn.top more m)
+    pub turn_ring : (d : ℕ) → f.next < length ys → mark.Open d ≡ mark_of w (get_or ys f.next 0)
+        → (d < length w.stack) × IsRing rows (map (λ f. f.signal) (drop d w.stack))
+    turn_ring d h on =
+        let more : f.next < length (row rows f.signal) = omega (arith, row_length) in
+        let m = ap (λ s. mark_of w s) (sym need_is) ∙ sym on in
+        ((turn.sound.is_open _ d m).0, ring_found rows w f d turn.sound turn.top more m)
 
-  pub turn_last : (v : Progress) → length ys ≤ f.next → v ≡ left w f
-      → Sound rows v × Keeps w v × (work rows v < work rows w)
-  turn_last v none e =
-    let o = top_open rows w f turn.sound turn.top in
-    let n : length (row rows f.signal) ≤ f.next = omega (arith, row_length) in
-    subst (λ v. Sound rows v × Keeps w v × (work rows v < work rows w)) (sym e)
-    (sound_left rows w f turn.sound turn.top turn.within n, keeps_left rows w f turn.sound turn.top
-        turn.within n, work_left rows w f turn.top turn.sound.full turn.within _ o)
+    pub turn_last : (v : Progress) → length ys ≤ f.next → v ≡ left w f
+        → Sound rows v × Keeps w v × (work rows v < work rows w)
+    turn_last v none e =
+        let o = top_open rows w f turn.sound turn.top in
+        let n : length (row rows f.signal) ≤ f.next = omega (arith, row_length) in
+        subst (λ v. Sound rows v × Keeps w v × (work rows v < work rows w)) (sym e) (
+          sound_left rows w f turn.sound turn.top turn.within n,
+          keeps_left rows w f turn.sound turn.top
+              turn.within n,
+          work_left rows w f turn.top turn.sound.full turn.within _ o,
+        )
 
 -- the walk goes on to a root, where none is on the way
 pub root_entered : (rows : List (List ℕ)) (w v : Progress) (root : ℕ) → Rooted rows w root
     → root < length rows → mark.New ≡ mark_of w root → v ≡ entered w root → Sound rows v
 root_entered rows w v root rooted fits new e =
     subst (Sound rows) (sym e) (sound_entered rows w root rooted.sound fits (sym new)
-        (λ i z. let n = ap length rooted.empty in absurd (omega arith)))
+    (λ i z. let n = ap length rooted.empty in absurd (omega arith)))
 
 new_everywhere : (n s : ℕ) → get_or (replicate n mark.New) s mark.New ≡ mark.New
 new_everywhere zero s = refl

@@ -19,8 +19,8 @@ dones-set (a ∷ ms) (suc t) m h = omega (arith, dones-set ms t m (omega arith))
 module _ (rows : List (List ℕ)) (w : Progress) (t : ℕ) (sound : Sound rows w)
     (fits : t < length rows) (new : mark_of w t ≡ mark.New)
     (link : (i : ℕ) → i + 1 ≡ length w.stack
-        → ((frame_at w i).next < length (row rows (frame_at w i).signal)) ×
-        (need rows (frame_at w i).signal (frame_at w i).next ≡ t)) where
+    → ((frame_at w i).next < length (row rows (frame_at w i).signal)) ×
+    (need rows (frame_at w i).signal (frame_at w i).next ≡ t)) where
   entered_same : mark_of (entered w t) t ≡ mark.Open (length w.stack)
   entered_same = get_or-set_same w.marks t _ _ (omega (arith, sound.full))
 
@@ -43,7 +43,7 @@ module _ (rows : List (List ℕ)) (w : Progress) (t : ℕ) (sound : Sound rows w
       (λ x. mark_of w x) e in cc) ∙ h
 
   entered_kept : (s : ℕ) → IsDone (mark_of w s) → IsDone (mark_of (entered w t) s)
-  entered_kept s (j , h) = (j, entered_done s j h)
+  entered_kept s (j, h) = (j, entered_done s j h)
 
   entered_cases : (i : ℕ) → i < length (entered w t).stack
       → (i < length w.stack) ⊎ (length w.stack ≡ i)
@@ -53,61 +53,83 @@ module _ (rows : List (List ℕ)) (w : Progress) (t : ℕ) (sound : Sound rows w
   pub sound_entered : Sound rows (entered w t)
   sound_entered = record {
     full = length-set w.marks t (mark.Open (length w.stack)) ∙ sound.full;
-    counted = omega (arith, dones-set w.marks t (mark.Open (length w.stack))
-        (omega (arith, sound.full)), ap one_if_done new, sound.counted);
+    counted = omega (
+      arith,
+      dones-set w.marks t (mark.Open (length w.stack))
+          (omega (arith, sound.full)),
+      ap one_if_done new,
+      sound.counted,
+    );
     opened = λ i h. elim (entered_cases i h) [
-        inl l ↦ subst (λ (f : Frame). mark_of (entered w t) f.signal ≡ mark.Open i)
-            (sym (entered_below i l)) (entered_open _ i (sound.opened i l))
+      | inl l ↦ subst (λ (f : Frame). mark_of (entered w t) f.signal ≡ mark.Open i)
+          (sym (entered_below i l)) (entered_open _ i (sound.opened i l))
       | inr e ↦ subst (λ (f : Frame). mark_of (entered w t) f.signal ≡ mark.Open i)
-          (sym (entered_top i e)) (entered_same ∙ ap (λ n. mark.Open n) e) ];
+          (sym (entered_top i e)) (entered_same ∙ ap (λ n. mark.Open n) e)
+    ];
     placed = λ i h. entered_done _ i (sound.placed i h);
     is_open = λ s i h. elim (cases_eq s t) [
-        inl e ↦
+      | inl e ↦
           let m : mark_of (entered w t) s ≡ mark.Open (length w.stack) = ap
-              (λ x. mark_of (entered w t) x) e ∙ entered_same in
-          let k : length w.stack ≡ i = cc in
-          (omega (arith, length_push w.stack (frame t 0)), ap (λ (f : Frame). f.signal)
-              (entered_top i k) ∙ sym e)
+          (λ x. mark_of (entered w t) x) e ∙ entered_same in
+          let k : length w.stack ≡ i = cc in (
+            omega (arith, length_push w.stack (frame t 0)),
+            ap (λ (f : Frame). f.signal)
+                (entered_top i k) ∙ sym e,
+          )
       | inr ne ↦
-          let old = sound.is_open s i (sym (entered_other s ne) ∙ h) in
-          (omega (arith, length_push w.stack (frame t 0), old.0), ap (λ (f : Frame). f.signal)
-              (entered_below i old.0) ∙ old.1) ];
+          let old = sound.is_open s i (sym (entered_other s ne) ∙ h) in (
+            omega (arith, length_push w.stack (frame t 0), old.0),
+            ap (λ (f : Frame). f.signal)
+                (entered_below i old.0) ∙ old.1,
+          )
+    ];
     is_done = λ s i h. elim (cases_eq s t) [
-        inl e ↦
+      | inl e ↦
           let m : mark_of (entered w t) s ≡ mark.Open (length w.stack) = ap
-              (λ x. mark_of (entered w t) x) e ∙ entered_same in
+          (λ x. mark_of (entered w t) x) e ∙ entered_same in
           let no : ⊥ = cc in absurd no
-      | inr ne ↦ sound.is_done s i (sym (entered_other s ne) ∙ h) ];
+      | inr ne ↦ sound.is_done s i (sym (entered_other s ne) ∙ h)
+    ];
     looked = λ i k h. elim (entered_cases i h) [
-        inl l ↦ subst (λ (f : Frame). k < f.next
-            → IsDone (mark_of (entered w t) (need rows f.signal k))) (sym (entered_below i l))
-            (λ b. entered_kept _ (sound.looked i k l b))
+      | inl l ↦ subst (λ (f : Frame). k < f.next
+          → IsDone (mark_of (entered w t) (need rows f.signal k))) (sym (entered_below i l))
+          (λ b. entered_kept _ (sound.looked i k l b))
       | inr e ↦ subst (λ (f : Frame). k < f.next
           → IsDone (mark_of (entered w t) (need rows f.signal k))) (sym (entered_top i e))
-          (λ b. absurd (omega arith)) ];
+          (λ b. absurd (omega arith))
+    ];
     within = λ i h. elim (entered_cases i h) [
-        inl l ↦ subst (λ (f : Frame). f.next ≤ length (row rows f.signal)) (sym (entered_below i l))
-            (sound.within i l)
+      | inl l ↦ subst (λ (f : Frame). f.next ≤ length (row rows f.signal)) (sym (entered_below i l))
+          (sound.within i l)
       | inr e ↦ subst (λ (f : Frame). f.next ≤ length (row rows f.signal)) (sym (entered_top i e))
-          (omega arith) ];
+          (omega arith)
+    ];
     chain = λ i h.
-      let l : i < length w.stack = omega (arith, length_push w.stack (frame t 0)) in
-      subst (λ (f : Frame). (f.next < length (row rows f.signal)) ×
-          (need rows f.signal f.next ≡ (frame_at (entered w t) (i + 1)).signal))
-          (sym (entered_below i l))
-      (elim (entered_cases (i + 1) h) [
-        inl m ↦ let old = sound.chain i m in (old.0, old.1 ∙ sym
-            (ap (λ (f : Frame). f.signal) (entered_below (i + 1) m)))
-      | inr e ↦ let last = link i (sym e) in (last.0, last.1 ∙ sym
-          (ap (λ (f : Frame). f.signal) (entered_top (i + 1) e))) ]);
+        let l : i < length w.stack = omega (arith, length_push w.stack (frame t 0)) in
+        subst (λ (f : Frame). (f.next < length (row rows f.signal)) ×
+        (need rows f.signal f.next ≡ (frame_at (entered w t) (i + 1)).signal))
+        (sym (entered_below i l))
+        (elim (entered_cases (i + 1) h) [
+          | inl m ↦ let old = sound.chain i m in (
+            old.0,
+            old.1 ∙ sym
+                (ap (λ (f : Frame). f.signal) (entered_below (i + 1) m)),
+          )
+          | inr e ↦ let last = link i (sym e) in (
+            last.0,
+            last.1 ∙ sym
+                (ap (λ (f : Frame). f.signal) (entered_top (i + 1) e)),
+          )
+        ]);
     after = λ i k h b. let old = sound.after i k h b in (old.0, old.1, entered_done _ old.0 old.2);
   }
 
   pub keeps_entered : Keeps w (entered w t)
   keeps_entered s seen n = elim (cases_eq s t) [
-      inl e ↦ let m : mark_of (entered w t) s ≡ mark.Open (length w.stack) = ap
-          (λ x. mark_of (entered w t) x) e ∙ entered_same in cc
-    | inr ne ↦ seen (sym (entered_other s ne) ∙ n) ]
+    | inl e ↦ let m : mark_of (entered w t) s ≡ mark.Open (length w.stack) = ap
+        (λ x. mark_of (entered w t) x) e ∙ entered_same in cc
+    | inr ne ↦ seen (sym (entered_other s ne) ∙ n)
+  ]
 
 -- the signal at hand needs, next, a signal that is done
 module _ (rows : List (List ℕ)) (w : Progress) (f : Frame) (sound : Sound rows w) (top : top_of w f)
@@ -131,16 +153,18 @@ module _ (rows : List (List ℕ)) (w : Progress) (f : Frame) (sound : Sound rows
   -- the signal at a depth stays
   passed_signal : (i : ℕ) → (frame_at (passed w f) i).signal ≡ (frame_at w i).signal
   passed_signal i = elim (cases_eq i (length w.stack - 1)) [
-      inl e ↦ ap (λ (g : Frame). g.signal) (passed_here i e) ∙ sym
-          (ap (λ (g : Frame). g.signal) (was_here i e))
-    | inr ne ↦ ap (λ (g : Frame). g.signal) (passed_other i ne) ]
+    | inl e ↦ ap (λ (g : Frame). g.signal) (passed_here i e) ∙ sym
+        (ap (λ (g : Frame). g.signal) (was_here i e))
+    | inr ne ↦ ap (λ (g : Frame). g.signal) (passed_other i ne)
+  ]
 
   -- what holds at a frame, holds at each, if it holds at this one
   passed_each : (P : Frame → Type 0) (i : ℕ) → (i ≢ length w.stack - 1 → P (frame_at w i))
       → (i ≡ length w.stack - 1 → P (frame f.signal (f.next + 1))) → P (frame_at (passed w f) i)
   passed_each P i other here = elim (cases_eq i (length w.stack - 1)) [
-      inl e ↦ subst P (sym (passed_here i e)) (here e)
-    | inr ne ↦ subst P (sym (passed_other i ne)) (other ne) ]
+    | inl e ↦ subst P (sym (passed_here i e)) (here e)
+    | inr ne ↦ subst P (sym (passed_other i ne)) (other ne)
+  ]
 
   pub sound_passed : Sound rows (passed w f)
   sound_passed = record {
@@ -153,21 +177,22 @@ module _ (rows : List (List ℕ)) (w : Progress) (f : Frame) (sound : Sound rows
         (omega (arith, passed_length, old.0), passed_signal i ∙ old.1);
     is_done = sound.is_done;
     looked = λ i k h. let l : i < length w.stack = omega (arith, passed_length) in
-      passed_each (λ g. k < g.next → IsDone (mark_of w (need rows g.signal k))) i
-          (λ ne b. sound.looked i k l b)
-      (λ e b. elim (cases_eq k f.next) [
-          inl z ↦ subst (λ n. IsDone (mark_of w (need rows f.signal n))) (sym z) done
-        | inr ne ↦
-            let P : Frame → Type 0 = λ g. k < g.next → IsDone (mark_of w (need rows g.signal k)) in
-            subst P (was_here i e) (λ b. sound.looked i k l b) (omega arith) ]);
+        passed_each (λ g. k < g.next → IsDone (mark_of w (need rows g.signal k))) i
+        (λ ne b. sound.looked i k l b)
+        (λ e b. elim (cases_eq k f.next) [
+          | inl z ↦ subst (λ n. IsDone (mark_of w (need rows f.signal n))) (sym z) done
+          | inr ne ↦
+              let P : Frame → Type 0 = λ g. k < g.next → IsDone (mark_of w (need rows g.signal k)) in
+              subst P (was_here i e) (λ b. sound.looked i k l b) (omega arith)
+        ]);
     within = λ i h. let l : i < length w.stack = omega (arith, passed_length) in
-      passed_each (λ g. g.next ≤ length (row rows g.signal)) i (λ ne. sound.within i l)
-          (λ e. omega (arith, more));
+        passed_each (λ g. g.next ≤ length (row rows g.signal)) i (λ ne. sound.within i l)
+        (λ e. omega (arith, more));
     chain = λ i h. let l : i + 1 < length w.stack = omega (arith, passed_length) in
-      passed_each (λ g. (g.next < length (row rows g.signal)) ×
-          (need rows g.signal g.next ≡ (frame_at (passed w f) (i + 1)).signal)) i
-      (λ ne. let old = sound.chain i l in (old.0, old.1 ∙ sym (passed_signal (i + 1))))
-          (λ e. absurd (omega arith));
+        passed_each (λ g. (g.next < length (row rows g.signal)) ×
+        (need rows g.signal g.next ≡ (frame_at (passed w f) (i + 1)).signal)) i
+        (λ ne. let old = sound.chain i l in (old.0, old.1 ∙ sym (passed_signal (i + 1))))
+        (λ e. absurd (omega arith));
     after = sound.after;
   }
 
@@ -212,73 +237,88 @@ module _ (rows : List (List ℕ)) (w : Progress) (f : Frame) (sound : Sound rows
   pub sound_left : Sound rows (left w f)
   sound_left = record {
     full = length-set w.marks f.signal (mark.Done (length w.order)) ∙ sound.full;
-    counted = omega (arith, dones-set w.marks f.signal (mark.Done (length w.order))
-        (omega (arith, sound.full)), ap one_if_done was_open, sound.counted, length_push w.order
-        f.signal);
+    counted = omega (
+      arith,
+      dones-set w.marks f.signal (mark.Done (length w.order))
+          (omega (arith, sound.full)),
+      ap one_if_done was_open,
+      sound.counted,
+      length_push w.order
+          f.signal,
+    );
     opened = λ i h.
-      let l : i < length w.stack = omega (arith, left_length) in
-      subst (λ (g : Frame). mark_of (left w f) g.signal ≡ mark.Open i) (sym (left_frame i h))
-      (left_other _ (λ e.
+        let l : i < length w.stack = omega (arith, left_length) in
+        subst (λ (g : Frame). mark_of (left w f) g.signal ≡ mark.Open i) (sym (left_frame i h))
+        (left_other _ (λ e.
         let m : mark_of w (frame_at w i).signal ≡ mark_of w f.signal = ap (λ x. mark_of w x) e in
         let o = was_open in let p = sound.opened i l in
         let k : i ≡ length w.stack - 1 = cc in absurd (omega (arith, left_length, k))) ∙
-            sound.opened i l);
+        sound.opened i l);
     placed = λ i h. elim (left_cases i h) [
-        inl l ↦ subst (λ s. mark_of (left w f) s ≡ mark.Done i) (sym (left_order i l))
-            (left_done _ i (sound.placed i l))
+      | inl l ↦ subst (λ s. mark_of (left w f) s ≡ mark.Done i) (sym (left_order i l))
+          (left_done _ i (sound.placed i l))
       | inr e ↦ subst (λ s. mark_of (left w f) s ≡ mark.Done i) (sym (left_last i e))
-          (left_same ∙ ap (λ n. mark.Done n) e) ];
+          (left_same ∙ ap (λ n. mark.Done n) e)
+    ];
     is_open = λ s i h. elim (cases_eq s f.signal) [
-        inl e ↦
+      | inl e ↦
           let m : mark_of (left w f) s ≡ mark.Done (length w.order) = ap (λ x. mark_of (left w f) x)
-              e ∙ left_same in
+          e ∙ left_same in
           let no : ⊥ = cc in absurd no
       | inr ne ↦
           let old = sound.is_open s i (sym (left_other s ne) ∙ h) in
           let l : i < length (left w f).stack = elim (cases_eq (i + 1) (length w.stack)) [
-              inl z ↦ absurd (ne (sym old.1 ∙ ap (λ (g : Frame). g.signal) (top_frame i z)))
-            | inr nz ↦ omega (arith, left_length, old.0) ] in
-          (l, ap (λ (g : Frame). g.signal) (left_frame i l) ∙ old.1) ];
+            | inl z ↦ absurd (ne (sym old.1 ∙ ap (λ (g : Frame). g.signal) (top_frame i z)))
+            | inr nz ↦ omega (arith, left_length, old.0)
+          ] in
+          (l, ap (λ (g : Frame). g.signal) (left_frame i l) ∙ old.1)
+    ];
     is_done = λ s i h. elim (cases_eq s f.signal) [
-        inl e ↦
+      | inl e ↦
           let m : mark_of (left w f) s ≡ mark.Done (length w.order) = ap (λ x. mark_of (left w f) x)
-              e ∙ left_same in
+          e ∙ left_same in
           let k : length w.order ≡ i = cc in
           (omega (arith, length_push w.order f.signal), left_last i k ∙ sym e)
       | inr ne ↦
           let old = sound.is_done s i (sym (left_other s ne) ∙ h) in
-          (omega (arith, length_push w.order f.signal, old.0), left_order i old.0 ∙ old.1) ];
+          (omega (arith, length_push w.order f.signal, old.0), left_order i old.0 ∙ old.1)
+    ];
     looked = λ i k h. let l : i < length w.stack = omega (arith, left_length) in
-      subst (λ (g : Frame). k < g.next → IsDone (mark_of (left w f) (need rows g.signal k)))
-          (sym (left_frame i h))
-      (λ b. let old = sound.looked i k l b in (old.0, left_done _ old.0 old.1));
+        subst (λ (g : Frame). k < g.next → IsDone (mark_of (left w f) (need rows g.signal k)))
+        (sym (left_frame i h))
+        (λ b. let old = sound.looked i k l b in (old.0, left_done _ old.0 old.1));
     within = λ i h. let l : i < length w.stack = omega (arith, left_length) in
-      subst (λ (g : Frame). g.next ≤ length (row rows g.signal)) (sym (left_frame i h))
-          (sound.within i l);
+        subst (λ (g : Frame). g.next ≤ length (row rows g.signal)) (sym (left_frame i h))
+        (sound.within i l);
     chain = λ i h. let l : i < length (left w f).stack = omega arith in let m : i + 1 < length
         w.stack = omega (arith, left_length) in
-      subst (λ (g : Frame). (g.next < length (row rows g.signal)) ×
-          (need rows g.signal g.next ≡ (frame_at (left w f) (i + 1)).signal)) (sym (left_frame i l))
-      (let old = sound.chain i m in (old.0, old.1 ∙ sym
-          (ap (λ (g : Frame). g.signal) (left_frame (i + 1) h))));
+        subst (λ (g : Frame). (g.next < length (row rows g.signal)) ×
+        (need rows g.signal g.next ≡ (frame_at (left w f) (i + 1)).signal)) (sym (left_frame i l))
+        (let old = sound.chain i m in (
+          old.0,
+          old.1 ∙ sym
+              (ap (λ (g : Frame). g.signal) (left_frame (i + 1) h)),
+        ));
     after = λ i k h. elim (left_cases i h) [
-        inl l ↦ subst (λ s. k < length (row rows s)
-            → (j : ℕ) × (j < i) × (mark_of (left w f) (need rows s k) ≡ mark.Done j))
-            (sym (left_order i l))
+      | inl l ↦ subst (λ s. k < length (row rows s)
+          → (j : ℕ) × (j < i) × (mark_of (left w f) (need rows s k) ≡ mark.Done j))
+          (sym (left_order i l))
           (λ b. let old = sound.after i k l b in (old.0, old.1, left_done _ old.0 old.2))
       | inr e ↦ subst (λ s. k < length (row rows s)
           → (j : ℕ) × (j < i) × (mark_of (left w f) (need rows s k) ≡ mark.Done j))
           (sym (left_last i e))
           (λ b.
-            let n = length w.stack - 1 in
-            let P : Frame → Type 0 = λ g. k < g.next → IsDone (mark_of w (need rows g.signal k)) in
-            let old = subst P (top_frame n (omega (arith, top.0)))
-                (λ b. sound.looked n k (omega (arith, top.0)) b) (omega (arith, none, b)) in
-            (old.0, omega (arith, (sound.is_done _ old.0 old.1).0, e), left_done _ old.0 old.1)) ];
+          let n = length w.stack - 1 in
+          let P : Frame → Type 0 = λ g. k < g.next → IsDone (mark_of w (need rows g.signal k)) in
+          let old = subst P (top_frame n (omega (arith, top.0)))
+          (λ b. sound.looked n k (omega (arith, top.0)) b) (omega (arith, none, b)) in
+          (old.0, omega (arith, (sound.is_done _ old.0 old.1).0, e), left_done _ old.0 old.1))
+    ];
   }
 
   pub keeps_left : Keeps w (left w f)
   keeps_left s seen n = elim (cases_eq s f.signal) [
-      inl e ↦ let m : mark_of (left w f) s ≡ mark.Done (length w.order) = ap
-          (λ x. mark_of (left w f) x) e ∙ left_same in cc
-    | inr ne ↦ seen (sym (left_other s ne) ∙ n) ]
+    | inl e ↦ let m : mark_of (left w f) s ≡ mark.Done (length w.order) = ap
+        (λ x. mark_of (left w f) x) e ∙ left_same in cc
+    | inr ne ↦ seen (sym (left_other s ne) ∙ n)
+  ]

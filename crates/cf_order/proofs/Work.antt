@@ -36,7 +36,7 @@ work rows w = fresh w.marks rows + sum_by (ahead rows) w.stack
 pub fresh-set : (ms : List Mark) (rows : List (List ℕ)) (t : ℕ) (m : Mark) → t < length ms
     → t < length rows
     → fresh (set ms t m) rows + to_do (get_or ms t mark.New) (length (row rows t)) ≡ fresh ms rows +
-        to_do m (length (row rows t))
+    to_do m (length (row rows t))
 fresh-set [] rows t m h k = elim h [ ]
 fresh-set (a ∷ ms) [] t m h k = elim k [ ]
 fresh-set (a ∷ ms) (r ∷ rows) zero m h k = omega arith
@@ -50,7 +50,7 @@ stack_split w f top =
     let n = length w.stack - 1 in
     let one : n + 1 ≡ length w.stack = omega (arith, top.0) in
     sym (take_all (n + 1) w.stack (omega arith)) ∙ take_more w.stack n f (omega arith) ∙ ap
-        (λ g. take n w.stack ++ g ∷ []) top.1
+    (λ g. take n w.stack ++ g ∷ []) top.1
 
 pub stack_set : (w : Progress) (f g : Frame) → top_of w f
     → set w.stack (length w.stack - 1) g ≡ take (length w.stack - 1) w.stack ++ g ∷ []
@@ -58,14 +58,14 @@ stack_set w f g top =
     let n = length w.stack - 1 in
     let one : n + 1 ≡ length w.stack = omega (arith, top.0) in
     sym (take_all (n + 1) (set w.stack n g) (omega (arith, length-set w.stack n g))) ∙ take_more_set
-        w.stack n g (omega arith)
+    w.stack n g (omega arith)
 
 pub work_entered : (rows : List (List ℕ)) (w : Progress) (t : ℕ) → length w.marks ≡ length rows
     → t < length rows → mark_of w t ≡ mark.New → work rows (entered w t) < work rows w
 work_entered rows w t full h new =
     let a = fresh-set w.marks rows t (mark.Open (length w.stack)) (omega arith) h in
     let b : to_do (get_or w.marks t mark.New) (length (row rows t)) ≡ length (row rows t) + 2 = ap
-        (λ m. to_do m (length (row rows t))) new in
+    (λ m. to_do m (length (row rows t))) new in
     let s = sum_by_push (ahead rows) w.stack (frame t 0) in
     omega (arith, a, b, s)
 
@@ -74,9 +74,9 @@ pub work_passed : (rows : List (List ℕ)) (w : Progress) (f : Frame) → top_of
 work_passed rows w f top more =
     let n = length w.stack - 1 in let g = frame f.signal (f.next + 1) in
     let a = ap (sum_by (ahead rows)) (stack_split w f top) ∙ sum_by_push (ahead rows)
-        (take n w.stack) f in
+    (take n w.stack) f in
     let b = ap (sum_by (ahead rows)) (stack_set w f g top) ∙ sum_by_push (ahead rows)
-        (take n w.stack) g in
+    (take n w.stack) g in
     omega (arith, a, b, more)
 
 pub work_left : (rows : List (List ℕ)) (w : Progress) (f : Frame) → top_of w f
@@ -86,7 +86,7 @@ work_left rows w f top full h i was =
     let n = length w.stack - 1 in
     let a = fresh-set w.marks rows f.signal (mark.Done (length w.order)) (omega arith) h in
     let b : to_do (get_or w.marks f.signal mark.New) (length (row rows f.signal)) ≡ 0 = ap
-        (λ m. to_do m (length (row rows f.signal))) was in
+    (λ m. to_do m (length (row rows f.signal))) was in
     let s = ap (sum_by (ahead rows)) (stack_split w f top) ∙ sum_by_push (ahead rows)
-        (take n w.stack) f in
+    (take n w.stack) f in
     omega (arith, a, b, s)

@@ -10,54 +10,54 @@ use Rattle.cf_hierarchy.proofs.flattening.flatten.Goals as goal
 pub order_of-requires : goal.order_of-requires
 order_of-requires c =
     let e = rows_are c.args.blocks.now c.in_ok-spread.spread.copies c.in_ok-spread.spread.firsts _ _
-        _ _ c.in_ok-nodes.ensures c.as_slice.ensures.value c.in_ok-rows.ensures
-        c.as_slice-2.ensures.value in
+    _ _ c.in_ok-nodes.ensures c.as_slice.ensures.value c.in_ok-rows.ensures
+    c.as_slice-2.ensures.value in
     subst (λ rows. All (All (λ t. t < length rows)) rows) (sym e)
     (rows_below c.args.blocks.now c.in_ok-spread.spread.copies c.in_ok-spread.spread.firsts
-        c.in_ok-spread.spread.end c.requires.blocks c.in_ok-spread.ensures.grown
-        c.in_ok-spread.ensures.all)
+    c.in_ok-spread.spread.end c.requires.blocks c.in_ok-spread.ensures.grown
+    c.in_ok-spread.ensures.all)
 
 pub returns-in-Err-Ring-clause-cycle : goal.returns-in-Err-Ring-clause-cycle
 returns-in-Err-Ring-clause-cycle c =
     let e = rows_are c.args.blocks.now c.in_ok-spread.spread.copies c.in_ok-spread.spread.firsts _ _
-        _ _ c.in_ok-nodes.ensures c.as_slice.ensures.value c.in_ok-rows.ensures
-        c.as_slice-2.ensures.value in
+    _ _ c.in_ok-nodes.ensures c.as_slice.ensures.value c.in_ok-rows.ensures
+    c.as_slice-2.ensures.value in
     let r = rw c.in-Err-Ring.field-0-is at c.in-Err-Ring.ensures.ring in
     cycle c.args.blocks.now c.in_ok-spread.spread.copies c.in_ok-spread.spread.firsts
-        c.in_ok-spread.spread.end c.requires.blocks c.in_ok-spread.ensures.grown
-        c.in_ok-spread.ensures.all
+    c.in_ok-spread.spread.end c.requires.blocks c.in_ok-spread.ensures.grown
+    c.in_ok-spread.ensures.all
     c.in-Err-Ring.field-0-0 (subst (λ rows. IsRing rows c.in-Err-Ring.field-0-0) e r)
 
 pub flat_of-requires-clause-nodes : goal.flat_of-requires-clause-nodes
 flat_of-requires-clause-nodes c =
     subst (λ (ns : List Node). All (IsNode c.args.inputs) ns)
-        (sym (c.as_slice-3.ensures.value ∙ c.in_ok-nodes.ensures))
+    (sym (c.as_slice-3.ensures.value ∙ c.in_ok-nodes.ensures))
     (nodes_ok c.args.blocks.now c.in_ok-spread.spread.copies c.in_ok-spread.spread.firsts
-        c.in_ok-spread.spread.end c.requires.blocks c.in_ok-spread.ensures.grown
-        c.in_ok-spread.ensures.all c.args.inputs c.requires.inputs)
+    c.in_ok-spread.spread.end c.requires.blocks c.in_ok-spread.ensures.grown
+    c.in_ok-spread.ensures.all c.args.inputs c.requires.inputs)
 
 pub returns-clause-shows : goal.returns-clause-shows
 returns-clause-shows c s h =
     let n = c.as_slice-3.ensures.value ∙ c.in_ok-nodes.ensures in
     let w = root_within c.args.blocks.now c.in_ok-spread.spread.copies c.in_ok-spread.spread.firsts
-        c.in_ok-spread.spread.end c.requires.blocks c.in_ok-spread.ensures.grown
-        c.in_ok-spread.ensures.all s h in
+    c.in_ok-spread.spread.end c.requires.blocks c.in_ok-spread.ensures.grown
+    c.in_ok-spread.ensures.all s h in
     let wires = c.in_ok-flat_of.field-0.wires in
     let gates = c.in_ok-flat_of.field-0.gates in
     shows_root c.args.blocks.now c.in_ok-spread.spread.copies c.in_ok-spread.spread.firsts
-        c.in_ok-spread.spread.end c.requires.blocks c.in_ok-spread.ensures.grown
-        c.in_ok-spread.ensures.all
+    c.in_ok-spread.spread.end c.requires.blocks c.in_ok-spread.ensures.grown
+    c.in_ok-spread.ensures.all
     c.args.inputs gates wires s h
     (subst (λ (ns : List Node). Shows ns c.args.inputs gates s (slice_index wires s)) n
-        (c.in_ok-flat_of.ensures.shows s (omega (arith, w, ap length n))))
+    (c.in_ok-flat_of.ensures.shows s (omega (arith, w, ap length n))))
     (omega (arith, c.in_ok-flat_of.ensures.signals, ap length n))
 
 pub returns-clause-no_cycle : goal.returns-clause-no_cycle
 returns-clause-no_cycle c =
     let e = rows_are c.args.blocks.now c.in_ok-spread.spread.copies c.in_ok-spread.spread.firsts _ _
-        _ _ c.in_ok-nodes.ensures c.as_slice.ensures.value c.in_ok-rows.ensures
-        c.as_slice-2.ensures.value in
+    _ _ c.in_ok-nodes.ensures c.as_slice.ensures.value c.in_ok-rows.ensures
+    c.as_slice-2.ensures.value in
     no_cycle c.args.blocks.now c.in_ok-spread.spread.copies c.in_ok-spread.spread.firsts
-        c.in_ok-spread.spread.end c.requires.blocks c.in_ok-spread.ensures.grown
-        c.in_ok-spread.ensures.all
+    c.in_ok-spread.spread.end c.requires.blocks c.in_ok-spread.ensures.grown
+    c.in_ok-spread.ensures.all
     (subst HasNoRing e c.in-Ok.ensures.no_ring)

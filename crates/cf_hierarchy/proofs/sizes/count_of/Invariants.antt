@@ -6,4 +6,4 @@ use Rattle.cf_hierarchy.proofs.sizes.count_of.Given as goal
 abbrev pub invariant-loop-model : goal.invariant-loop-model
 invariant-loop-model l =
     (min (l.limit + 1) (l.total + sum_by (slice_index l.counts) (drop l.model-index l.called)) ≡ min
-        (l.limit + 1) (l.weight + sum_by (slice_index l.counts) l.called)) × (l.total ≤ l.limit + 1)
+    (l.limit + 1) (l.weight + sum_by (slice_index l.counts) l.called)) × (l.total ≤ l.limit + 1)

@@ -9,5 +9,5 @@ pub record Adding (a b : Type 0) : Type 0 where
 abbrev pub invariant-loop-place : goal.invariant-loop-place
 invariant-loop-place l = Adding
     (l.copies ++ made l.blocks l.parent l.place l.next (drop l.place l.calls) ≡ l.initial.copies ++
-        made l.blocks l.parent 0 l.base l.calls)
+    made l.blocks l.parent 0 l.base l.calls)
     (made_end l.blocks l.next (drop l.place l.calls) ≡ made_end l.blocks l.base l.calls)

@@ -6,7 +6,7 @@ use Rattle.cf_hierarchy.proofs.spread.spread_one.Goals as goal
 pub add_calls-requires : goal.add_calls-requires
 add_calls-requires c =
     let w = subst (λ copies. (get_or copies c.args.i blank).block < length c.args.blocks.now)
-        (sym c.items.ensures) (c.requires.grown.there c.args.i c.requires.there) in
+    (sym c.items.ensures) (c.requires.grown.there c.args.i c.requires.there) in
     call_there _ c.index-blocks-instance.result _
-        (block_read _ _ _ c.requires.blocks w c.index-blocks-instance.is)
-        (c.items-calls.ensures ∙ ap (λ (b : Block). b.calls) (sym c.index-blocks-instance.is))
+    (block_read _ _ _ c.requires.blocks w c.index-blocks-instance.is)
+    (c.items-calls.ensures ∙ ap (λ (b : Block). b.calls) (sym c.index-blocks-instance.is))

@@ -21,13 +21,13 @@ pub loop-frame-smaller-in_ok-enter-in-New : goal.loop-frame-smaller-in_ok-enter-
 loop-frame-smaller-in_ok-enter-in-New c =
     let h = here _ _ _ _ c.loop-frame.invariant.sound c.in-Some.ensures c.needs_of-needs.ensures in
     (turn_new _ _ _ _ h _ c.requires.below c.if-frame-needs.true c.in-New.ensures
-        c.in_ok-enter-in-New.ensures).2
+    c.in_ok-enter-in-New.ensures).2
 
 pub loop-frame-preserved-in_ok-enter-in-New : goal.loop-frame-preserved-in_ok-enter-in-New
 loop-frame-preserved-in_ok-enter-in-New c =
     let h = here _ _ _ _ c.loop-frame.invariant.sound c.in-Some.ensures c.needs_of-needs.ensures in
     let t = turn_new _ _ _ _ h _ c.requires.below c.if-frame-needs.true c.in-New.ensures
-        c.in_ok-enter-in-New.ensures in
+    c.in_ok-enter-in-New.ensures in
     record { sound = t.0; keeps = λ s seen. t.1 s (c.loop-frame.invariant.keeps s seen) }
 
 pub loop-frame-smaller-in-Done : goal.loop-frame-smaller-in-Done
@@ -50,11 +50,15 @@ pub returns-in-Open-clause-ring : goal.returns-in-Open-clause-ring
 returns-in-Open-clause-ring c =
     let h = here _ _ _ _ c.loop-frame.invariant.sound c.in-Some.ensures c.needs_of-needs.ensures in
     subst (λ ring. IsRing c.args.rows.now ring) (sym c.in_ok-from-in-Open.ensures)
-        (turn_ring _ _ _ _ h _ c.if-frame-needs.true c.in-Open.ensures).1
+    (turn_ring _ _ _ _ h _ c.if-frame-needs.true c.in-Open.ensures).1
 
 pub leave-requires-clause-within : goal.leave-requires-clause-within
-leave-requires-clause-within c = omega (arith, top_within _ _ _ c.loop-frame.invariant.sound
-    c.in-Some.ensures, c.loop-frame.invariant.sound.full)
+leave-requires-clause-within c = omega (
+  arith,
+  top_within _ _ _ c.loop-frame.invariant.sound
+      c.in-Some.ensures,
+  c.loop-frame.invariant.sound.full,
+)
 
 pub loop-frame-smaller : goal.loop-frame-smaller
 loop-frame-smaller c =

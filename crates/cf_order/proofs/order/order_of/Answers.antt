@@ -11,7 +11,7 @@ climb-requires-clause-sound c = root_entered _ _ _ _ c.loop-root.invariant c.loo
 pub returns-clause-order : goal.returns-clause-order
 returns-clause-order c =
     subst (λ order. IsOrder c.args.rows.now order) (sym c.into_order.ensures)
-        (order_found _ _ _ (omega arith) c.loop-root.invariant)
+    (order_found _ _ _ (omega arith) c.loop-root.invariant)
 
 pub returns-clause-no_ring : goal.returns-clause-no_ring
 returns-clause-no_ring c = order_has_no_ring _ _

@@ -12,8 +12,8 @@ loop-need-preserved-then-index c =
     let w = c.requires c.loop-need.need-index 0 c.loop-need-test.true in
     let l : t < length c.loop-need.seen.items = omega (arith, w, c.loop-need.invariant.full) in
     visit_seen _ _ _ _ _ _ c.loop-need.invariant c.loop-need-test.true
-        (sym (get_or_read c.loop-need.seen.items t c.index.result.now l c.index.ensures false) ∙
-        c.if-index.true)
+    (sym (get_or_read c.loop-need.seen.items t c.index.result.now l c.index.ensures false) ∙
+    c.if-index.true)
 
 pub loop-need-preserved : goal.loop-need-preserved
 loop-need-preserved c =
@@ -21,5 +21,5 @@ loop-need-preserved c =
     let w = c.requires c.loop-need.need-index 0 c.loop-need-test.true in
     let l : t < length c.loop-need.seen.items = omega (arith, w, c.loop-need.invariant.full) in
     visit_new _ _ _ _ _ _ _ c.loop-need.invariant c.loop-need-test.true
-        (sym (get_or_read c.loop-need.seen.items t c.index.result.now l c.index.ensures false) ∙
-        c.if-index.false) w c.in_ok-push.ensures.items
+    (sym (get_or_read c.loop-need.seen.items t c.index.result.now l c.index.ensures false) ∙
+    c.if-index.false) w c.in_ok-push.ensures.items
