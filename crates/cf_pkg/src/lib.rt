@@ -14,7 +14,7 @@ mod words;
 
 ghost use Rattle.std.specs.Prelude.{◌≡◌, ◌<◌, ◌≤◌, ◌+◌, ◌-◌, ◌*◌, ◌^◌, ◌↔◌, List, Bool, IsTrue, IfOk, Some};
 ghost use Rattle.cf_model.specs.Assignments.{bits};
-ghost use Rattle.cf_model.specs.FlatFunctions.{IsAssignment, value_at, tabulated, variable};
+ghost use Rattle.cf_model.specs.FlatFunctions.{IsFlatFunction, IsAssignment, value_at, tabulated, variable};
 ghost use Rattle.cf_model.specs.Diagrams.{IsGood};
 ghost use Rattle.cf_model.specs.Functions.{IsFunction};
 ghost use Rattle.cf_model.specs.Renumbering.{AllDiffer};
@@ -124,6 +124,7 @@ impl Pkg {
             f.head.level f.head.at (values_of self.now f) }
         ensures one { (g : Func) → OwnsFunction self.now g →
             meaning self.now g ≡ meaning self.now f → g ≡ f }
+        ensures flat { (g : Func) → OwnsFunction self.now g → IsFlatFunction (meaning self.now g) }
     {
         self.table.law();
         let _ = self.values.get(f.vals);

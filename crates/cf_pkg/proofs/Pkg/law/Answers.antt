@@ -4,6 +4,7 @@ use Rattle.cf_model.specs.Renumbering.{AllDiffer}
 use Rattle.cf_model.specs.Values.{Fits}
 use Rattle.cf_model.specs.Diagrams.{IsGood}
 use Rattle.cf_model.specs.FlatFunctions.{FlatFunction, value_at}
+use Rattle.cf_model.proofs.FunctionLaws.{function_flat}
 use Rattle.cf_pkg.specs.declared.Func.{Func}
 use Rattle.cf_pkg.specs.Packages.{Package, OwnsFunction, values_of}
 use Rattle.cf_pkg.proofs.Meanings.{Known, agreeing, low}
@@ -35,3 +36,9 @@ returns-clause-one c g h e =
     let p = c.args.self.now in
     agreeing p g c.args.f (known c g h) (known c c.args.f c.requires.owned) (ap (λ (m : FlatFunction). m.level) e)
     (λ bits assigns. ap (λ (m : FlatFunction). value_at m bits) e)
+
+pub returns-clause-flat : goal.returns-clause-flat
+returns-clause-flat c g h =
+    let p = c.args.self.now in
+    let k = known c g h in
+    function_flat p.groupings.levels k.good g.head.level g.head.at (values_of p g) k.level k.function
