@@ -1,4 +1,4 @@
-use Rattle.std.proofs.Common.{◌≡◌, ℕ, ℤ, List, ◌<◌, ◌≤◌, ◌^◌, [], ◌∷◌, pos, Option, Some, None, MatchOption, OnOk, OnErr, Result, Ok, Err, refl, sym, subst, arith, inl, inr}
+use Rattle.std.proofs.Common.{◌≡◌, ℕ, ℤ, List, ◌<◌, ◌≤◌, ◌^◌, [], ◌∷◌, pos, Option, Some, None, IfNone, MatchOption, OnOk, OnErr, Result, Ok, Err, refl, sym, subst, arith, inl, inr}
 use Rattle.std.specs.List.{All, slice_get}
 use Rattle.cf_build.specs.Assembling.{Stands}
 use Rattle.cf_model.specs.Values.{Fits}
@@ -167,3 +167,8 @@ added_known p q r s key h f same head e a =
 -- and such a function's parts are in the table
 pub parts_known : (r s : Package) (key : JobKey) (f : Func) → IsGood r.groupings.levels → f.head.at < count r.groupings.levels f.head.level → s ≡ with_job r key f → HasParts s f
 parts_known r s key f good there e = subst (λ (x : Package). HasParts x f) (sym e) (sub_in r.groupings.levels good f.head.level f.head.at there)
+
+-- where a look-up finds nothing, what it says of nothing holds
+pub none-of : {A : Type 0} (o : Option A) (U : Type 0) (D : A → Type 0) → MatchOption o U D → IfNone o U
+none-of None U D h = h
+none-of (Some x) U D h = tt

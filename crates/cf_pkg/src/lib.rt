@@ -6,6 +6,7 @@ mod basics;
 mod exits;
 mod jobs;
 mod least_assignment;
+mod lookups;
 mod memo;
 mod operations;
 mod reached;
