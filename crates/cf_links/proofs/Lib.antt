@@ -1,1 +1,2 @@
 pub mod LinkExamples
+pub mod PartLaws

@@ -1,3 +1,4 @@
 pub mod Parts
 pub mod Links
 pub mod Faults
+pub mod Signals

@@ -3,6 +3,7 @@
 #![tactic(auto)]
 
 pub mod faults;
+mod parts;
 
 pub use faults::NameFault;
 
