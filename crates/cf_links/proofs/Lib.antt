@@ -1,1 +1,2 @@
+pub mod DirectoriesNames
 pub mod LinkExamples

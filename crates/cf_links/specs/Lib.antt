@@ -1,3 +1,4 @@
-pub mod Parts
-pub mod Links
+pub mod Directories
 pub mod Faults
+pub mod Links
+pub mod Parts
