@@ -1,2 +1,3 @@
+pub mod DirectoriesNames
 pub mod LinkExamples
 pub mod PartLaws
