@@ -1,3 +1,4 @@
 pub mod DirectoriesNames
 pub mod LinkExamples
 pub mod PartLaws
+pub mod SignalLaws

@@ -5,6 +5,7 @@
 mod directory;
 pub mod faults;
 mod parts;
+mod signals;
 
 pub use faults::NameFault;
 
