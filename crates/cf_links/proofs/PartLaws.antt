@@ -1,8 +1,7 @@
 -- The first of the gates and calls in order of their lines.
-use Rattle.std.proofs.Common.{ℕ, zero, suc, ◌≡◌, ◌≢◌, ◌<◌, ◌≤◌, ◌+◌, Bool, true, false, cond, List, [], ◌∷◌, length, get_or, map, refl, ap, sym, subst, ◌∙◌, arith}
+use Rattle.std.proofs.Common.{ℕ, suc, ◌≡◌, ◌≢◌, ◌<◌, ◌≤◌, Bool, true, false, cond, List, [], ◌∷◌, length, get_or, map, refl, ap, sym, subst, ◌∙◌, arith}
 use Rattle.std.specs.Prelude.{nat_lt}
 use Rattle.std.proofs.lemmas.Bool.{lt-ltb, le-ltb}
-use Rattle.std.specs.List.{All, AllPairs}
 use Rattle.cf_circuits.specs.declared.gates.Gate.{Gate}
 use Rattle.cf_circuits.specs.declared.pins.Call.{Call}
 use Rattle.cf_links.specs.Parts.{Part, AGate, ACall, line_of, put, merged}

@@ -46,7 +46,12 @@ impl Driven {
     }
 
     /// Notes what a call drives.
-    fn drive_call(&mut self, alloc: Global, directory: &Directory, call: &Call) -> Result<(), NoMemory>
+    fn drive_call(
+        &mut self,
+        alloc: Global,
+        directory: &Directory,
+        call: &Call,
+    ) -> Result<(), NoMemory>
         ensures { OnOk result (self.new ≡ drive_all self.old (drives directory.now (ACall call.now))) }
     {
         let Some(callee) = directory.place(call.model.bytes()) else {
@@ -62,7 +67,12 @@ impl Driven {
     }
 
     /// Notes what a gate or a call drives.
-    fn drive_part(&mut self, alloc: Global, directory: &Directory, part: Part) -> Result<(), NoMemory>
+    fn drive_part(
+        &mut self,
+        alloc: Global,
+        directory: &Directory,
+        part: Part,
+    ) -> Result<(), NoMemory>
         ensures { OnOk result (self.new ≡ drive_all self.old (drives directory.now (part_of part.entry))) }
     {
         match part {
@@ -73,7 +83,11 @@ impl Driven {
 }
 
 /// The signals of a model that are driven.
-fn signals_driven(alloc: Global, directory: &Directory, model: &ModelDef) -> Result<Driven, NoMemory>
+fn signals_driven(
+    alloc: Global,
+    directory: &Directory,
+    model: &ModelDef,
+) -> Result<Driven, NoMemory>
     requires { IsModel model.now }
     ensures { IfOk result (λ d. d ≡ drive_all nothing (all_driven directory.now model.now)) }
 {
