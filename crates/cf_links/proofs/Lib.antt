@@ -1,2 +1,4 @@
+pub mod CallsSearch
 pub mod DirectoriesNames
+pub mod DirectoriesPlaces
 pub mod LinkExamples
