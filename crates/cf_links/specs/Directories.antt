@@ -1,10 +1,10 @@
-use Rattle.std.specs.Prelude.{◌≡◌, ℕ, ◌<◌, true, List, length, Some}
+use Rattle.std.specs.Prelude.{◌≡◌, ℕ, ◌<◌, true, List, length, map, Option, Some, None, slice_index_or, if◌then◌else◌}
 use Rattle.std.specs.List.{slice_get}
 use Rattle.std.specs.Str.{bytes_eq}
 use Rattle.cf_model.specs.Renumbering.{place}
 use Rattle.cf_circuits.specs.declared.models.ModelDef.{ModelDef}
 use Rattle.cf_links.specs.declared.directory.Listed.{Listed}
-use Rattle.cf_links.specs.Links.{is_among, names_of}
+use Rattle.cf_links.specs.Links.{is_among, names_of, no_model, first_of}
 
 -- Two lists have the same names, in whatever order and however often.
 abbrev pub HaveSame : List (List ℕ) → List (List ℕ) → Type 0
@@ -26,3 +26,12 @@ pub record IsPlace (models : List ModelDef) (name : List ℕ) (at : ℕ) : Type 
   pub within : at < length models
   pub known : is_among (names_of models) name ≡ true
   pub is_it : at ≡ place bytes_eq (names_of models) name
+
+-- the model at a place, if there is one
+abbrev pub model_at : List ModelDef → Option ℕ → ModelDef
+model_at models None = no_model
+model_at models (Some at) = slice_index_or models at no_model
+
+-- the first of some names that isn't among others
+abbrev pub first_lacking : List (List ℕ) → List (List ℕ) → Option (List ℕ)
+first_lacking others names = first_of (map (λ name. if is_among others name then None else Some name) names)

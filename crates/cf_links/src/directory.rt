@@ -1,12 +1,13 @@
 //! The models of a netlist by their names.
 
-ghost use Rattle.std.specs.Prelude.{◌≡◌, ◌<◌, false, length, slice_index_or, IfOk, MatchOption};
+ghost use Rattle.std.specs.Prelude.{◌≡◌, ◌<◌, false, length, slice_index_or, IfOk, IfSome, MatchOption};
 ghost use Rattle.cf_model.specs.Renumbering.{AllDiffer};
-ghost use Rattle.cf_links.specs.Links.{is_among, names_of, no_model, is_input as input_of, is_output as output_of};
-ghost use Rattle.cf_links.specs.Directories.{HaveSame, Lists, ListsEach, IsPlace};
+ghost use Rattle.cf_links.specs.Links.{is_among, names_of, no_model, callee as callee_of, is_input as input_of, is_output as output_of};
+ghost use Rattle.cf_links.specs.Directories.{HaveSame, Lists, ListsEach, IsPlace, model_at};
 
 use crate::NoMemory;
 use cf_circuits::models::ModelDef;
+use cf_circuits::pins::Call;
 use cf_names::{Name, NameBook};
 use std::alloc::Global;
 use std::marker::Model;
@@ -68,6 +69,14 @@ impl<'a> Directory<'a> {
     {
         let place = self.names.find(name)?;
         Some(place as usize)
+    }
+
+    /// The place of the model that a call calls, if it is there.
+    pub fn callee(&self, call: &Call) -> Option<usize>
+        ensures within { IfSome result (λ at. at < length self.now) }
+        ensures model { model_at self.now result ≡ callee_of self.now call.now }
+    {
+        self.place(call.model.bytes())
     }
 
     /// Whether the model at a place has an input with a name.

@@ -2,6 +2,7 @@
 //! formals and its pins, and whether each signal that is used is driven once.
 #![tactic(auto)]
 
+mod calls;
 mod directory;
 pub mod faults;
 mod parts;
