@@ -1,18 +1,17 @@
 -- Signals that are driven again, and signals that are used and not driven.
-use Rattle.std.proofs.Common.{ℕ, suc, ◌≡◌, ◌||◌, Bool, true, false, cond, List, [], ◌∷◌, ◌++◌, length, map, Option, Some, None, refl, ap, sym, ◌∙◌, arith, append_assoc}
-use Rattle.std.specs.Prelude.{MatchOption, Result, Ok, Err, IfOk}
+use Rattle.std.proofs.Common.{ℕ, ◌≡◌, ◌||◌, Bool, true, false, cond, List, [], ◌∷◌, ◌++◌, map, Option, Some, None, refl, ap, sym, ◌∙◌, append_assoc}
+use Rattle.std.specs.Prelude.{Result, Ok, Err, IfOk}
 use Rattle.std.specs.Str.{bytes_eq}
-use Rattle.std.proofs.lemmas.List.{get_or_past, length-map}
 use Rattle.std.proofs.lemmas.List.Folds.{list_any-append}
-use Rattle.cf_model.specs.Renumbering.{note, place}
+use Rattle.cf_model.specs.Renumbering.{note}
 use Rattle.cf_circuits.specs.declared.pins.Pin.{Pin}
 use Rattle.cf_circuits.specs.declared.pins.Call.{Call}
 use Rattle.cf_circuits.specs.declared.models.ModelDef.{ModelDef}
 use Rattle.cf_links.specs.declared.signals.Driven.{Driven}
-use Rattle.cf_links.specs.Directories.{IsPlace}
+use Rattle.cf_links.specs.Directories.{first_lacking, model_at}
 use Rattle.cf_links.specs.Parts.{Part, ACall, parts}
-use Rattle.cf_links.specs.Links.{first_of, gathered, is_among, is_input, is_output, names_of, no_model, callee, actuals, drives, uses, driven, used, repeated, undriven}
-use Rattle.cf_links.specs.Signals.{nothing, drive, drive_all, first_other}
+use Rattle.cf_links.specs.Links.{first_of, gathered, is_among, is_input, is_output, no_model, callee, actuals, drives, uses, driven, used, repeated, undriven}
+use Rattle.cf_links.specs.Signals.{nothing, drive, drive_all}
 use Rattle.cf_links.proofs.DirectoriesNames.{among-note}
 
 -- the first of two answers that there is
@@ -68,20 +67,20 @@ among-driven s (x ∷ names) name =
 
 -- the known names can be told by any that are the same names
 others-same : (known others : List (List ℕ)) (names : List (List ℕ)) → ((name : List ℕ) → is_among known name ≡ is_among others name)
-    → first_other known names ≡ first_other others names
+    → first_lacking known names ≡ first_lacking others names
 others-same known others [] same = refl
 others-same known others (name ∷ names) same =
     ap (λ b. first_of (cond b None (Some name) ∷ map (λ n. cond (is_among known n) None (Some n)) names)) (same name)
     ∙ by (is_among others name) (others-same known others names same)
   where
-    by : (b : Bool) → first_other known names ≡ first_other others names
+    by : (b : Bool) → first_lacking known names ≡ first_lacking others names
         → first_of (cond b None (Some name) ∷ map (λ n. cond (is_among known n) None (Some n)) names)
         ≡ first_of (cond b None (Some name) ∷ map (λ n. cond (is_among others n) None (Some n)) names)
     by true h = h
     by false h = refl
 
 -- the first name that isn't driven
-pub other-driven : (all names : List (List ℕ)) → first_other (drive_all nothing all).names names ≡ first_other all names
+pub other-driven : (all names : List (List ℕ)) → first_lacking (drive_all nothing all).names names ≡ first_lacking all names
 other-driven all names = others-same (drive_all nothing all).names all names (among-driven nothing all)
 
 -- signals that are driven behind others
@@ -90,38 +89,25 @@ drive_all-append s [] more = refl
 drive_all-append s (name ∷ names) more = drive_all-append (drive s name) names more
 
 -- names behind others that are known
-other-append : (known names more : List (List ℕ)) → first_other known (names ++ more) ≡ first_of (first_other known names ∷ first_other known more ∷ [])
-other-append known [] more = at (first_other known more)
+other-append : (known names more : List (List ℕ)) → first_lacking known (names ++ more) ≡ first_of (first_lacking known names ∷ first_lacking known more ∷ [])
+other-append known [] more = at (first_lacking known more)
   where
     at : (o : Option (List ℕ)) → o ≡ first_of (None ∷ o ∷ [])
     at None = refl
     at (Some x) = refl
 other-append known (name ∷ names) more = by (is_among known name) (other-append known names more)
   where
-    by : (b : Bool) → first_other known (names ++ more) ≡ first_of (first_other known names ∷ first_other known more ∷ [])
+    by : (b : Bool) → first_lacking known (names ++ more) ≡ first_of (first_lacking known names ∷ first_lacking known more ∷ [])
         → first_of (cond b None (Some name) ∷ map (λ n. cond (is_among known n) None (Some n)) (names ++ more))
-        ≡ first_of (first_of (cond b None (Some name) ∷ map (λ n. cond (is_among known n) None (Some n)) names) ∷ first_other known more ∷ [])
+        ≡ first_of (first_of (cond b None (Some name) ∷ map (λ n. cond (is_among known n) None (Some n)) names) ∷ first_lacking known more ∷ [])
     by true h = h
     by false h = refl
 
--- a name that isn't among names has their number as its place
-lacks-place : (names : List (List ℕ)) (name : List ℕ) → is_among names name ≡ false → place bytes_eq names name ≡ length names
-lacks-place [] name h = refl
-lacks-place (other ∷ names) name h = by (bytes_eq other name) h (lacks-place names name)
-  where
-    by : (b : Bool) → (b || is_among names name) ≡ false → (is_among names name ≡ false → place bytes_eq names name ≡ length names)
-        → cond b 0 (suc (place bytes_eq names name)) ≡ suc (length names)
-    by true h rest = cc
-    by false h rest = ap suc (rest h)
-
 -- a model that isn't found has no inputs and outputs
-no-callee : (models : List ModelDef) (c : Call) (name : List ℕ) (at : Option ℕ) → name ≡ c.model
-    → MatchOption at (is_among (names_of models) name ≡ false) (IsPlace models name) → ((x : ℕ) → at ≡ Some x → ⊥) → callee models c ≡ no_model
-no-callee models c name None same lacks none =
-    let past : place bytes_eq (names_of models) c.model ≡ length models =
-    lacks-place (names_of models) c.model (sym (ap (is_among (names_of models)) same) ∙ lacks) ∙ length-map models (λ (m : ModelDef). m.name) in
-    get_or_past models (place bytes_eq (names_of models) c.model) no_model (omega (arith, past))
-no-callee models c name (Some at) same is none = absurd (none at refl)
+no-callee : (models : List ModelDef) (c : Call) (at : Option ℕ) → model_at models at ≡ callee models c → ((x : ℕ) → at ≡ Some x → ⊥)
+    → callee models c ≡ no_model
+no-callee models c None is none = sym is
+no-callee models c (Some at) is none = absurd (none at refl)
 
 no-outputs : (pins : List Pin) → actuals (is_output no_model) pins ≡ []
 no-outputs [] = refl
@@ -132,13 +118,13 @@ no-inputs [] = refl
 no-inputs (p ∷ pins) = no-inputs pins
 
 -- a call of a model that isn't found drives and uses nothing
-pub no-driven : (models : List ModelDef) (c : Call) (name : List ℕ) (at : Option ℕ) → name ≡ c.model
-    → MatchOption at (is_among (names_of models) name ≡ false) (IsPlace models name) → ((x : ℕ) → at ≡ Some x → ⊥) → drives models (ACall c) ≡ []
-no-driven models c name at same is none = ap (λ m. actuals (is_output m) c.pins) (no-callee models c name at same is none) ∙ no-outputs c.pins
+pub no-driven : (models : List ModelDef) (c : Call) (at : Option ℕ) → model_at models at ≡ callee models c → ((x : ℕ) → at ≡ Some x → ⊥)
+    → drives models (ACall c) ≡ []
+no-driven models c at is none = ap (λ m. actuals (is_output m) c.pins) (no-callee models c at is none) ∙ no-outputs c.pins
 
-pub no-used : (models : List ModelDef) (c : Call) (name : List ℕ) (at : Option ℕ) → name ≡ c.model
-    → MatchOption at (is_among (names_of models) name ≡ false) (IsPlace models name) → ((x : ℕ) → at ≡ Some x → ⊥) → uses models (ACall c) ≡ []
-no-used models c name at same is none = ap (λ m. actuals (is_input m) c.pins) (no-callee models c name at same is none) ∙ no-inputs c.pins
+pub no-used : (models : List ModelDef) (c : Call) (at : Option ℕ) → model_at models at ≡ callee models c → ((x : ℕ) → at ≡ Some x → ⊥)
+    → uses models (ACall c) ≡ []
+no-used models c at is none = ap (λ m. actuals (is_input m) c.pins) (no-callee models c at is none) ∙ no-inputs c.pins
 
 -- a book of names, of which none was driven again
 abbrev once : List (List ℕ) → Driven
@@ -166,37 +152,37 @@ part-driven models s now all later part end h is e =
 -- the signals that are used, by each part
 pub use-begun : (models : List ModelDef) (m : ModelDef) (s : Driven) (left : List Part)
     → s ≡ drive_all nothing (driven models m) → left ≡ parts m
-    → first_other s.names (gathered (uses models) left ++ m.outputs) ≡ undriven models m
+    → first_lacking s.names (gathered (uses models) left ++ m.outputs) ≡ undriven models m
 use-begun models m s left is all =
-    ap (λ d. first_other d.names (gathered (uses models) left ++ m.outputs)) is
-    ∙ ap (λ ps. first_other (drive_all nothing (driven models m)).names (gathered (uses models) ps ++ m.outputs)) all
+    ap (λ d. first_lacking d.names (gathered (uses models) left ++ m.outputs)) is
+    ∙ ap (λ ps. first_lacking (drive_all nothing (driven models m)).names (gathered (uses models) ps ++ m.outputs)) all
     ∙ other-driven (driven models m) (used models m)
 
 -- what the next part and those behind it use
 next-used : (models : List ModelDef) (known : List (List ℕ)) (all later : List Part) (part : Part) (outputs : List (List ℕ))
     → all ≡ part ∷ later
-    → first_other known (gathered (uses models) all ++ outputs)
-    ≡ first_of (first_other known (uses models part) ∷ first_other known (gathered (uses models) later ++ outputs) ∷ [])
+    → first_lacking known (gathered (uses models) all ++ outputs)
+    ≡ first_of (first_lacking known (uses models part) ∷ first_lacking known (gathered (uses models) later ++ outputs) ∷ [])
 next-used models known all later part outputs is =
-    ap (λ ps. first_other known (gathered (uses models) ps ++ outputs)) is
-    ∙ ap (first_other known) (append_assoc (uses models part) (gathered (uses models) later) outputs)
+    ap (λ ps. first_lacking known (gathered (uses models) ps ++ outputs)) is
+    ∙ ap (first_lacking known) (append_assoc (uses models part) (gathered (uses models) later) outputs)
     ∙ other-append known (uses models part) (gathered (uses models) later ++ outputs)
 
 -- a part that uses a signal without a driver
 pub use-found : (models : List ModelDef) (known : List (List ℕ)) (all later : List Part) (part : Part) (outputs : List (List ℕ)) (name : List ℕ)
-    (end : Option (List ℕ)) → first_other known (gathered (uses models) all ++ outputs) ≡ end → all ≡ part ∷ later
-    → Some name ≡ first_other known (uses models part) → Some name ≡ end
+    (end : Option (List ℕ)) → first_lacking known (gathered (uses models) all ++ outputs) ≡ end → all ≡ part ∷ later
+    → Some name ≡ first_lacking known (uses models part) → Some name ≡ end
 use-found models known all later part outputs name end h is found =
-    ap (λ o. first_of (o ∷ first_other known (gathered (uses models) later ++ outputs) ∷ [])) found
+    ap (λ o. first_of (o ∷ first_lacking known (gathered (uses models) later ++ outputs) ∷ [])) found
     ∙ sym (next-used models known all later part outputs is) ∙ h
 
 -- a part all whose signals are driven
 pub use-driven : (models : List ModelDef) (known : List (List ℕ)) (all later : List Part) (part : Part) (outputs : List (List ℕ))
-    (end : Option (List ℕ)) → first_other known (gathered (uses models) all ++ outputs) ≡ end → all ≡ part ∷ later
-    → None ≡ first_other known (uses models part) → first_other known (gathered (uses models) later ++ outputs) ≡ end
+    (end : Option (List ℕ)) → first_lacking known (gathered (uses models) all ++ outputs) ≡ end → all ≡ part ∷ later
+    → None ≡ first_lacking known (uses models part) → first_lacking known (gathered (uses models) later ++ outputs) ≡ end
 use-driven models known all later part outputs end h is none =
-    at (first_other known (gathered (uses models) later ++ outputs))
-    ∙ ap (λ o. first_of (o ∷ first_other known (gathered (uses models) later ++ outputs) ∷ [])) none
+    at (first_lacking known (gathered (uses models) later ++ outputs))
+    ∙ ap (λ o. first_of (o ∷ first_lacking known (gathered (uses models) later ++ outputs) ∷ [])) none
     ∙ sym (next-used models known all later part outputs is) ∙ h
   where
     at : (o : Option (List ℕ)) → o ≡ first_of (None ∷ o ∷ [])
@@ -205,8 +191,8 @@ use-driven models known all later part outputs end h is none =
 
 -- the outputs, where no part is left
 pub outputs-left : {E : Type 0} (models : List ModelDef) (known : List (List ℕ)) (left : List Part) (names outputs : List (List ℕ)) (end : Option (List ℕ))
-    (answer : Result (Option (List ℕ)) E) → first_other known (gathered (uses models) left ++ outputs) ≡ end → left ≡ [] → names ≡ outputs
-    → IfOk answer (λ o. o ≡ first_other known names) → IfOk answer (λ o. o ≡ end)
+    (answer : Result (Option (List ℕ)) E) → first_lacking known (gathered (uses models) left ++ outputs) ≡ end → left ≡ [] → names ≡ outputs
+    → IfOk answer (λ o. o ≡ first_lacking known names) → IfOk answer (λ o. o ≡ end)
 outputs-left models known left names outputs end (Ok o) h none same is =
-    is ∙ ap (first_other known) same ∙ sym (ap (λ ps. first_other known (gathered (uses models) ps ++ outputs)) none) ∙ h
+    is ∙ ap (first_lacking known) same ∙ sym (ap (λ ps. first_lacking known (gathered (uses models) ps ++ outputs)) none) ∙ h
 outputs-left models known left names outputs end (Err e) h none same is = tt

@@ -1,4 +1,4 @@
-use Rattle.std.specs.Prelude.{◌≢◌, ◌<◌, ℕ, List, [], ◌∷◌, map, Option, Some, None, if◌then◌else◌}
+use Rattle.std.specs.Prelude.{◌≢◌, ◌<◌, ℕ, List, [], ◌∷◌, Some, None, if◌then◌else◌}
 use Rattle.std.specs.List.{All, AllPairs}
 use Rattle.std.specs.Str.{bytes_eq}
 use Rattle.cf_model.specs.Renumbering.{note}
@@ -36,7 +36,3 @@ drive seen name = record {
 abbrev pub drive_all : Driven → List (List ℕ) → Driven
 drive_all seen [] = seen
 drive_all seen (name ∷ later) = drive_all (drive seen name) later
-
--- the first of some names that is not among the known ones
-abbrev pub first_other : List (List ℕ) → List (List ℕ) → Option (List ℕ)
-first_other known names = first_of (map (λ name. if is_among known name then None else Some name) names)

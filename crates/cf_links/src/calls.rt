@@ -129,7 +129,11 @@ fn formals_of(alloc: Global, call: &Call) -> Result<NameBook, NoMemory>
 }
 
 /// The first of some names that a book hasn't.
-fn first_lacking(alloc: Global, book: &NameBook, names: &[Name]) -> Result<Option<Name>, NoMemory>
+pub(crate) fn first_lacking(
+    alloc: Global,
+    book: &NameBook,
+    names: &[Name],
+) -> Result<Option<Name>, NoMemory>
     ensures { IfOk result (λ name. name ≡ first_not_in book.now names.now) }
 {
     for name in names {

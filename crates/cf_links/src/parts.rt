@@ -17,7 +17,8 @@ pub(crate) enum Part<'a> {
     Call(&'a Call),
 }
 
-/// The gates and calls that are left, each in order of their lines, and none of both kinds on one line.
+/// The gates and calls that are left, each in order of their lines. No line is both a gate and a
+/// call.
 #[derive(Drop)]
 pub(crate) struct Parts<'a> {
     gates: &'a [Gate],

@@ -5,9 +5,11 @@ ghost use Rattle.cf_circuits.specs.Kept.{IsModel};
 ghost use Rattle.cf_links.specs.Parts.{ACall};
 ghost use Rattle.cf_links.specs.Links.{drives, uses, driven as all_driven, twice_driven as repeated};
 ghost use Rattle.cf_links.specs.Links.{undriven as first_undriven};
-ghost use Rattle.cf_links.specs.Signals.{part_of, nothing, drive, drive_all, first_other};
+ghost use Rattle.cf_links.specs.Directories.{first_lacking as first_not_in};
+ghost use Rattle.cf_links.specs.Signals.{part_of, nothing, drive, drive_all};
 
 use crate::NoMemory;
+use crate::calls::first_lacking;
 use crate::directory::Directory;
 use crate::parts::{Part, Parts};
 use cf_circuits::models::ModelDef;
@@ -52,9 +54,10 @@ impl Driven {
         directory: &Directory,
         call: &Call,
     ) -> Result<(), NoMemory>
-        ensures { OnOk result (self.new ≡ drive_all self.old (drives directory.now (ACall call.now))) }
+        ensures { OnOk result
+            (self.new ≡ drive_all self.old (drives directory.now (ACall call.now))) }
     {
-        let Some(callee) = directory.place(call.model.bytes()) else {
+        let Some(callee) = directory.callee(call) else {
             return Ok(());
         };
         let pins = call.pins.items();
@@ -73,7 +76,8 @@ impl Driven {
         directory: &Directory,
         part: Part,
     ) -> Result<(), NoMemory>
-        ensures { OnOk result (self.new ≡ drive_all self.old (drives directory.now (part_of part.entry))) }
+        ensures { OnOk result
+            (self.new ≡ drive_all self.old (drives directory.now (part_of part.entry))) }
     {
         match part {
             Part::Gate(gate) => self.drive(alloc, &gate.out),
@@ -116,18 +120,6 @@ pub(crate) fn twice_driven(
     Ok(driven.again)
 }
 
-/// The first name that the book hasn't.
-fn first_unknown(alloc: Global, known: &NameBook, names: &[Name]) -> Result<Option<Name>, NoMemory>
-    ensures { IfOk result (λ name. name ≡ first_other known.now names.now) }
-{
-    for name in names {
-        if known.find(name.bytes()).is_none() {
-            return Ok(Some(Name::new(alloc, name.bytes())?));
-        }
-    }
-    Ok(None)
-}
-
 /// The first signal that a call uses and the book hasn't.
 fn unknown_to_call(
     alloc: Global,
@@ -136,9 +128,9 @@ fn unknown_to_call(
     call: &Call,
 ) -> Result<Option<Name>, NoMemory>
     ensures { IfOk result
-        (λ name. name ≡ first_other known.now (uses directory.now (ACall call.now))) }
+        (λ name. name ≡ first_not_in known.now (uses directory.now (ACall call.now))) }
 {
-    let Some(callee) = directory.place(call.model.bytes()) else {
+    let Some(callee) = directory.callee(call) else {
         return Ok(None);
     };
     let pins = call.pins.items();
@@ -159,10 +151,10 @@ fn unknown_to_part(
     part: Part,
 ) -> Result<Option<Name>, NoMemory>
     ensures { IfOk result
-        (λ name. name ≡ first_other known.now (uses directory.now (part_of part.entry))) }
+        (λ name. name ≡ first_not_in known.now (uses directory.now (part_of part.entry))) }
 {
     match part {
-        Part::Gate(gate) => first_unknown(alloc, known, gate.ins.items()),
+        Part::Gate(gate) => first_lacking(alloc, known, gate.ins.items()),
         Part::Call(call) => unknown_to_call(alloc, directory, known, call),
     }
 }
@@ -183,5 +175,5 @@ pub(crate) fn undriven(
             return Ok(Some(name));
         }
     }
-    first_unknown(alloc, &driven.names, model.outputs.items())
+    first_lacking(alloc, &driven.names, model.outputs.items())
 }

@@ -18,5 +18,5 @@ loop-part-preserved c =
     c.loop-part.invariant c.in-Some.ensures.first (sym c.in_default-2.is ∙ c.in_ok-name.ensures)
 
 pub returns : goal.returns
-returns c = outputs-left c.args.directory.now _ c.loop-part.parts c.items.result.now c.args.model.now.outputs _ c.first_unknown.result
-    c.loop-part.invariant c.in_default.ensures.none c.items.ensures c.first_unknown.ensures
+returns c = outputs-left c.args.directory.now _ c.loop-part.parts c.items.result.now c.args.model.now.outputs _ c.first_lacking.result
+    c.loop-part.invariant c.in_default.ensures.none c.items.ensures c.first_lacking.ensures

@@ -6,4 +6,4 @@ use Rattle.cf_links.proofs.signals.Driven.drive_call.Goals as goal
 pub returns-in_default : goal.returns-in_default
 returns-in_default c =
     sym (ap (drive_all c.args.self.now)
-    (no-driven c.args.directory.now c.args.call.now c.bytes.result.now c.place.result c.bytes.ensures c.place.ensures c.in_default.not-Some))
+    (no-driven c.args.directory.now c.args.call.now c.callee.result c.callee.ensures.model c.in_default.not-Some))
