@@ -1,0 +1,6 @@
+pub mod CallsSearch
+pub mod DirectoriesNames
+pub mod DirectoriesPlaces
+pub mod LinkExamples
+pub mod PartLaws
+pub mod SignalLaws
