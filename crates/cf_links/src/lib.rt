@@ -5,6 +5,7 @@
 mod calls;
 mod directory;
 pub mod faults;
+mod recursion;
 
 pub use faults::NameFault;
 
