@@ -1,4 +1,5 @@
 pub mod Directories
 pub mod Faults
+pub mod Kinds
 pub mod Links
 pub mod Parts
