@@ -1,3 +1,4 @@
+pub mod CallsRings
 pub mod CallsSearch
 pub mod DirectoriesNames
 pub mod DirectoriesPlaces

@@ -35,3 +35,7 @@ model_at models (Some at) = slice_index_or models at no_model
 -- the first of some names that isn't among others
 abbrev pub first_lacking : List (List ℕ) → List (List ℕ) → Option (List ℕ)
 first_lacking others names = first_of (map (λ name. if is_among others name then None else Some name) names)
+
+-- the places of the models that a model calls
+abbrev pub places_of : List ModelDef → ModelDef → List ℕ
+places_of models m = map (λ c. place bytes_eq (names_of models) c.model) m.calls

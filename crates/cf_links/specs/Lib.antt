@@ -1,5 +1,6 @@
-pub mod Parts
-pub mod Links
-pub mod Faults
 pub mod Directories
+pub mod Faults
+pub mod Kinds
+pub mod Links
+pub mod Parts
 pub mod Signals
