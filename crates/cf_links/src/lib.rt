@@ -1,5 +1,5 @@
-//! The links between the models of a netlist, by their names: whether each call finds its model, its
-//! formals and its pins, and whether each signal that is used is driven once.
+//! The links between the models of a netlist, by their names: whether each call finds its model,
+//! its formals and its pins, and whether each signal that is used is driven once.
 #![tactic(auto)]
 
 ghost use Rattle.std.specs.Prelude.{◌≡◌, All, IfOk, MatchOption};

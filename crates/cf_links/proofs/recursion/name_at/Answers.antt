@@ -9,4 +9,4 @@ pub returns : goal.returns
 returns c =
     let models = c.args.models.now in
     IfOk-weaker c.new.result (λ name. name ≡ c.bytes.result.now) (λ name. slice_get (names_of models) c.args.at ≡ Some name)
-    (λ name is. named-at models c.args.at c.index-models-at.result name c.requires (is ∙ c.bytes.ensures)) c.new.ensures
+    (λ name is. named-at models c.args.at _ name c.requires (is ∙ c.bytes.ensures)) c.new.ensures
