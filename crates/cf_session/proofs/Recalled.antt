@@ -1,7 +1,7 @@
 -- A kept expression isn't refused, and its function is built.
-use Rattle.std.proofs.Common.{ℕ, ℤ, zero, suc, pos, ◌≡◌, ◌≤◌, ◌<◌, ◌≤ℤ◌, ◌^◌, ◌==◌, ◌&&◌, Bool, true, false, List, [], ◌∷◌, ◌++◌, Option, Some, None, Ok, refl, sym, ap, subst, ◌∙◌, arith}
+use Rattle.std.proofs.Common.{ℕ, ℤ, zero, suc, pos, ◌≡◌, ◌≤◌, ◌<◌, ◌≤ℤ◌, ◌^◌, ◌==◌, ◌&&◌, true, false, List, [], ◌∷◌, ◌++◌, Some, None, Ok, refl, sym, ap, subst, ◌∙◌, arith}
 use Rattle.std.proofs.lemmas.Int.{ints}
-use Rattle.std.specs.Prelude.{negsuc, nat_abs, nat_le, nat_lt, is_some}
+use Rattle.std.specs.Prelude.{negsuc, nat_abs, nat_le, is_some}
 use Rattle.std.specs.List.{list_all}
 use Rattle.std.specs.Option.{option_or, option_map}
 use Rattle.std.proofs.lemmas.Bool.Decides.{nat_tests}
@@ -23,7 +23,7 @@ use Rattle.cf_reference.specs.Trees as tree
 use Rattle.cf_reference.specs.Heads.{kind_in, kind_at}
 use Rattle.cf_reference.specs.declared.grammar.Kind.TheVariants.{Expression as AnExpression}
 use Rattle.cf_reference.specs.Reasons.{NoLevel, LevelsDiffer, BadLevel, OutOfRange, NoName, Overflow, unless}
-use Rattle.cf_reference.specs.States.{State, level_in, is_below, named, is_bound}
+use Rattle.cf_reference.specs.States.{State, level_in, is_below}
 use Rattle.cf_reference.specs.Calls.{Part, Meant, call, call_refusal, levels, positions, is_nested, flat}
 use Rattle.cf_reference.specs.Calls as means
 use Rattle.cf_reference.specs.Carrying.{function_from}
@@ -40,8 +40,8 @@ use Rattle.cf_session.specs.declared.values.Value.TheVariants.{Function, Positio
 use Rattle.cf_session.specs.Sessions.{Held, state_of, StandsFor}
 use Rattle.cf_session.specs.Building.{Builds, refusal_of}
 use Rattle.cf_session.specs.Values.{meaning_of, meanings, Calls}
-use Rattle.cf_session.specs.Keeping.{call_task, IsJobKept, AreStepsKept, IsCallKept, IsKept, AreKept, IsRepeat, AnswersAgain}
-use Rattle.cf_session.proofs.Built.{name_built, or_nones, or_second}
+use Rattle.cf_session.specs.Keeping.{call_task, IsJobKept, AreStepsKept, IsCallKept, IsKept, AreKept, AnswersAgain}
+use Rattle.cf_session.proofs.Built.{name_built, or_nones}
 use Rattle.cf_session.proofs.Gathering.{unnested}
 use Rattle.cf_session.proofs.Kept.{first_kept, none_kept}
 use Rattle.cf_session.proofs.Jobs.{job_calls, one_calls, fold_calls, choice_calls}
@@ -360,20 +360,22 @@ mutual
   all_built (atom a es) h law head i (Number n ∷ args) formed k =
       ((atom_walked (state_of h) head i a formed.0, k.0), all_built es h law head (suc i) args formed.1 k.1)
 
--- The function of a kept expression is the package's.
+-- Each finished job of a package is in order, and its function has its values.
 abbrev pub AreFinished : Package → Type 0
 AreFinished p = (t : Task) (f : Func) → IsRemembered p t f → Finishes p t f
 
+-- The function of a kept expression is the package's.
 steps_owned : (p : Package) → AreFinished p → (word : Word2) (f : Func) (later : List Value) (r : Func) → OwnsFunction p f → AreStepsKept p (Fold word) f later r
     → OwnsFunction p r
 steps_owned p fin word f [] r owned k = subst (OwnsFunction p) (sym k) owned
 steps_owned p fin word f (v ∷ later) r owned k = steps_owned p fin word k.0 later r (fin k.1.0 k.0 k.1.2).values.owned k.2
 
-no_function : (h : Held) (a : Atom) (es : Arguments) (word : Word2) (args : List Value) (r : Func) → AreKept h (atom a es) args → IsCallKept h.pkg (Fold word) args r → ⊥
-no_function h a es word [] r a_kept k = k
-no_function h a es word (Function f ∷ later) r a_kept k = a_kept
-no_function h a es word (Position i ∷ later) r a_kept k = k
-no_function h a es word (Number n ∷ later) r a_kept k = k
+-- The first value of a fold is a function, so no fold of an atom is kept.
+first_is_atom : (h : Held) (a : Atom) (es : Arguments) (word : Word2) (args : List Value) (r : Func) → AreKept h (atom a es) args → IsCallKept h.pkg (Fold word) args r → ⊥
+first_is_atom h a es word [] r a_kept k = k
+first_is_atom h a es word (Function f ∷ later) r a_kept k = a_kept
+first_is_atom h a es word (Position i ∷ later) r a_kept k = k
+first_is_atom h a es word (Number n ∷ later) r a_kept k = k
 
 pub kept_owned : (e : Tree) (h : Held) → AreFinished h.pkg → (f : Func) → IsKept h e f → OwnsFunction h.pkg f
 kept_owned (Num n) h fin f k = (fin (task.Const (level_in (state_of h)) n) f k).values.owned
@@ -385,7 +387,7 @@ kept_owned (Call (Fold word) none) h fin f k = absurd (subst (λ l. IsCallKept h
 kept_owned (Call (Fold word) (more e es)) h fin f k =
     let split = first_kept h e es k.0 k.1 in
     steps_owned h.pkg fin word split.0 split.1 f (kept_owned e h fin split.0 split.3) (subst (λ l. IsCallKept h.pkg (Fold word) l f) split.2 k.2)
-kept_owned (Call (Fold word) (atom a es)) h fin f k = absurd (no_function h a es word k.0 f k.1 k.2)
+kept_owned (Call (Fold word) (atom a es)) h fin f k = absurd (first_is_atom h a es word k.0 f k.1 k.2)
 kept_owned (Call Ite es) h fin f k = (fin k.2.0 f k.2.2).values.owned
 
 -- Nothing refuses a kept expression.
