@@ -83,7 +83,7 @@ owned-push : (p : Package) (args : List Value) (v : Value) → AreOwned p args �
 owned-push p [] v h k = (k, tt)
 owned-push p (w ∷ args) v h k = (h.0, owned-push p args v h.1 k)
 
-unnested : (head : Head) (done : List Meant) → is_nested head ≡ false → first_failure (fold_step head done) ≡ None
+pub unnested : (head : Head) (done : List Meant) → is_nested head ≡ false → first_failure (fold_step head done) ≡ None
 unnested head done e =
     ap (λ b. first_failure (cond (b && nat_le 2 (length done)) (call head done ∷ []) [])) e
 

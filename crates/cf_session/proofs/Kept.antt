@@ -194,7 +194,7 @@ repeats_job h k g t u result e answers f i =
 pub const_is : (k l : ℕ) (m n : ℤ) → k ≡ l → m ≡ n → task.Const k m ≡ task.Const l n
 const_is k l m n e h = ap (λ x. task.Const x m) e ∙ ap (λ x. task.Const l x) h
 
-var_is : (k l i j : ℕ) → k ≡ l → i ≡ j → task.Var k i ≡ task.Var l j
+pub var_is : (k l i j : ℕ) → k ≡ l → i ≡ j → task.Var k i ≡ task.Var l j
 var_is k l i j e h = ap (λ x. task.Var x i) e ∙ ap (λ x. task.Var l x) h
 
 pub number_kept : (r : Result Func StepFault) (h k : Held) (l : ℕ) (m n : ℤ) → Grows h k → l ≡ level_in (state_of h) → m ≡ n

@@ -14,6 +14,8 @@ pub mod Places
 pub mod Turns
 pub mod Kept
 pub mod KeptCalls
+pub mod Recalled
+pub mod Recalling
 pub mod KeepingExamples
 pub mod ListFacts
 pub mod StatementFacts

@@ -35,7 +35,7 @@ use Rattle.cf_session.specs.Values.{AreOwned, AreOf, Calls}
 use Rattle.cf_session.proofs.Built.{fault_turned, same_level, or_nones, or_second, or_first}
 use Rattle.cf_session.proofs.WalkFacts.{append-none}
 
-is_same : (m n : ℕ) → m ≡ n → m == n ≡ true
+pub is_same : (m n : ℕ) → m ≡ n → m == n ≡ true
 is_same m n e = grind (arith, nat_tests)
 
 -- the exact value of a call whose function is there
@@ -104,7 +104,7 @@ pair_kinds (Fold Eq) n f g = (tt, (tt, tt))
 pair_kinds (Fold Lt) n f g = (tt, (tt, tt))
 pair_kinds Ite n f g = absurd (false≢true n)
 
-pair_ruled : (head : Head) → is_nested head ≡ true → (f g : FlatFunction) → g.level ≡ f.level → f.level ≤ 7 → call_refusal head (Function f ∷ Function g ∷ []) ≡ None
+pub pair_ruled : (head : Head) → is_nested head ≡ true → (f g : FlatFunction) → g.level ≡ f.level → f.level ≤ 7 → call_refusal head (Function f ∷ Function g ∷ []) ≡ None
 pair_ruled head n f g same low =
     ap (λ b. option_or (unless (b && true) LevelsDiffer) (option_or (unless true OutOfRange) (unless (nat_le (exact head (Function f ∷ Function g ∷ [])).level 7) BadLevel)))
     (is_same g.level f.level same)

@@ -53,6 +53,11 @@ impl Session {
         if self.level.is_none() {
             return Err(StepFault::Refused(Refusal::NoLevel));
         }
+        if let Some(f) = self.recall(expr) {
+            self.pkg.finished_law();
+            self.pkg.law(f);
+            return Ok(f);
+        }
         match self.walk(expr) {
             Ok(_) => self.evaluate(expr),
             Err(refusal) => Err(StepFault::Refused(refusal)),

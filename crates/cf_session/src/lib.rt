@@ -6,6 +6,7 @@ mod arguments;
 mod bindings;
 mod build;
 pub mod faults;
+mod recall;
 mod session;
 mod statements;
 mod step;
