@@ -5,6 +5,8 @@
 #[cfg(test)]
 mod calls;
 #[cfg(test)]
+mod circuits;
+#[cfg(test)]
 mod sessions;
 #[cfg(test)]
 mod streams;
