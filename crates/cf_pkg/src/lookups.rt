@@ -36,6 +36,9 @@ impl Pkg {
         ensures found { IfSome result (IsRemembered self.now (task.Var level i)) }
         ensures none { IfNone result (IsUndone self.now.memo (task.Var level i)) }
     {
+        if let Some(f) = self.memo.variable_in_slot(level, i) {
+            return Some(f);
+        }
         self.finished(JobKey::Alone(Alone::Variable { level, position: i }))
     }
 
@@ -54,6 +57,9 @@ impl Pkg {
         ensures found { IfSome result (IsRemembered self.now (task.Apply (of_two word) f g)) }
         ensures none { IfNone result (IsUndone self.now.memo (task.Apply (of_two word) f g)) }
     {
+        if let Some(r) = self.memo.apply_in_slot(word, f, g) {
+            return Some(r);
+        }
         self.finished(JobKey::OfTwo(OfTwo::Apply(Operation::Two(word)), f, g))
     }
 

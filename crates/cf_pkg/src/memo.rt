@@ -1,6 +1,12 @@
 //! The finished jobs that a package remembers, so that none of them is done twice.
 
-ghost use Rattle.std.specs.Prelude.{IfSome, ◌≡◌, [], IfOk, OnOk, OnErr, MatchOption};
+ghost use Rattle.cf_ops.specs.Operations.{of_two};
+ghost use Rattle.cf_pkg.specs.Tasks as task;
+ghost use Rattle.cf_pkg.specs.declared.memo.JobKey.TheVariants as key;
+ghost use Rattle.cf_pkg.specs.declared.memo.Alone.TheVariants.{Variable};
+ghost use Rattle.cf_pkg.specs.declared.memo.OfTwo.TheVariants.{Apply};
+ghost use Rattle.cf_pkg.specs.declared.memo.Operation.TheVariants.{Two};
+ghost use Rattle.std.specs.Prelude.{true, IfSome, ◌≡◌, [], IfOk, OnOk, OnErr, MatchOption};
 ghost use Rattle.cf_pkg.specs.Memos.{no_job, task_at, finished, IsFinished, IsWordless, IsOperation, IsTold, IsKeyOf, HasTree, IsAnswer, IsUndone, EntersTree, with_entry};
 ghost use Rattle.cf_pkg.specs.Packages.{Keeps, IsRemembered};
 ghost use Rattle.cf_pkg.specs.Jobs.{task_of, Finishes};
@@ -59,6 +65,34 @@ pub(crate) enum JobKey {
     OfThree(Operation, Func, Func, Func),
 }
 
+impl JobKey {
+    /// Whether it is the key of a variable.
+    #[inline(always)]
+    fn is_variable(&self, at: u8, place: u8) -> bool
+        ensures { result ≡ true → self.now ≡ key.Alone (Variable at place) }
+    {
+        match self {
+            JobKey::Alone(Alone::Variable { level, position }) => {
+                *level == at && *position == place
+            }
+            _ => false,
+        }
+    }
+
+    /// Whether it is the key of a word's operation on two functions.
+    #[inline(always)]
+    fn is_apply(&self, word: Word2, f: Func, g: Func) -> bool
+        ensures { result ≡ true → self.now ≡ key.OfTwo (Apply (Two word)) f g }
+    {
+        match self {
+            JobKey::OfTwo(OfTwo::Apply(Operation::Two(known)), first, second) => {
+                *known == word && *first == f && *second == g
+            }
+            _ => false,
+        }
+    }
+}
+
 /// The operation of a word's tree.
 fn word_of(tree: &Term) -> Option<Operation>
     ensures { MatchOption result (IsWordless tree.now) (λ o. IsOperation [] o tree.now) }
@@ -92,16 +126,28 @@ fn spread(f: Func) -> u64 {
         .wrapping_mul(0x9e37_79b9_7f4a_7c15)
 }
 
+/// The slot of a variable.
+#[inline(always)]
+fn variable_slot(level: u8, position: u8) -> usize {
+    level as usize * 128 + position as usize
+}
+
+/// The slot of a job on two functions.
+#[inline(always)]
+fn slot_of_two(f: Func, g: Func) -> usize {
+    (spread(f).wrapping_mul(31).wrapping_add(spread(g)) >> 52) as usize
+}
+
 /// The slot of a job. Two may have the same one.
 #[inline(always)]
 fn slot_of(key: &JobKey) -> usize {
     let number = match *key {
         JobKey::Alone(Alone::Variable { level, position }) => {
-            return level as usize * 128 + position as usize;
+            return variable_slot(level, position);
         }
         JobKey::Alone(_) => 0,
         JobKey::OfOne(_, f) => spread(f),
-        JobKey::OfTwo(_, f, g) => spread(f).wrapping_mul(31).wrapping_add(spread(g)),
+        JobKey::OfTwo(_, f, g) => return slot_of_two(f, g),
         JobKey::OfThree(_, f, g, h) => {
             let both = spread(f).wrapping_mul(31).wrapping_add(spread(g));
             both.wrapping_mul(31).wrapping_add(spread(h))
@@ -236,6 +282,34 @@ impl Memo {
         let place = *self.slots.get(slot_of(key))?;
         let (known, f) = self.jobs.get_index(place)?;
         if known == key { Some(*f) } else { None }
+    }
+
+    /// The function of a variable, if its slot has it.
+    #[inline(always)]
+    pub fn variable_in_slot(&self, level: u8, position: u8) -> Option<Func>
+        ensures { IfSome result (IsAnswer self.now (task.Var level position)) }
+    {
+        let place = *self.slots.get(variable_slot(level, position))?;
+        let (known, f) = self.jobs.get_index(place)?;
+        if known.is_variable(level, position) {
+            Some(*f)
+        } else {
+            None
+        }
+    }
+
+    /// The function of a word's operation on two others, if its slot has it.
+    #[inline(always)]
+    pub fn apply_in_slot(&self, word: Word2, f: Func, g: Func) -> Option<Func>
+        ensures { IfSome result (IsAnswer self.now (task.Apply (of_two word) f g)) }
+    {
+        let place = *self.slots.get(slot_of_two(f, g))?;
+        let (known, r) = self.jobs.get_index(place)?;
+        if known.is_apply(word, f, g) {
+            Some(*r)
+        } else {
+            None
+        }
     }
 
     /// Enters the function of a job that wasn't finished.
