@@ -15,8 +15,20 @@ use cf_script::Expr;
 impl Session {
     /// The function of an expression each job of which is finished, where the look-ups find it. None
     /// says nothing.
+    #[inline(always)]
     #[cycle(recall)]
     pub(crate) fn recall(&self, expr: &Expr<'_>) -> Option<Func>
+        ensures { IfSome result (IsKept self.now (tree_of expr.now)) }
+    {
+        match expr {
+            Expr::At(position) => self.recall_bit(*position),
+            _ => self.recall_any(expr),
+        }
+    }
+
+    /// The same. Positions, of which there are most, are looked up where an expression is met.
+    #[cycle(recall)]
+    fn recall_any(&self, expr: &Expr<'_>) -> Option<Func>
         ensures { IfSome result (IsKept self.now (tree_of expr.now)) }
     {
         match expr {

@@ -15,35 +15,35 @@ use Rattle.cf_session.proofs.Listed.{item_shallow, next_of, none_left}
 use Rattle.cf_session.proofs.Recalling.{LeadsOn, seen, fold_tree, choice_tree, constant_tree, three_of, one_found, choice_found, fold_begins, fold_goes, fold_ends}
 use Rattle.cf_session.proofs.session.Session.+recall.Goals as goal
 
-pub recall-recall_fold-requires : goal.recall-recall_fold-requires
-recall-recall_fold-requires t c =
+pub recall_any-recall_fold-requires : goal.recall_any-recall_fold-requires
+recall_any-recall_fold-requires t c =
     let deeper : depth (tree_of c.args.expr.now) ≡ depths (listed c.items.result.now) + 1 = ap depth (fold_tree c.args.expr.now c.in-Fold.word c.in-Fold.es c.items.result.now c.in-Fold.is c.items.ensures) in
     search (rules, arith)
 
-pub recall-recall_choice-requires : goal.recall-recall_choice-requires
-recall-recall_choice-requires t c =
+pub recall_any-recall_choice-requires : goal.recall_any-recall_choice-requires
+recall_any-recall_choice-requires t c =
     let deeper : depth (tree_of c.args.expr.now) ≡ depths (listed c.items-in-Ite.result.now) + 1 = ap depth (choice_tree c.args.expr.now c.in-Ite.es c.items-in-Ite.result.now c.in-Ite.is c.items-in-Ite.ensures) in
     search (rules, arith)
 
-pub recall-returns-in-Const : goal.recall-returns-in-Const
-recall-returns-in-Const t c =
+pub recall_any-returns-in-Const : goal.recall_any-returns-in-Const
+recall_any-returns-in-Const t c =
     let level_fits : SFits w128 c.in-Const.level = search rules in
     let n_fits : SFits w128 c.in-Const.n = search rules in
     subst (λ (u : Tree). IfSome c.recall_constant.result (IsKept c.args.self.now u))
     (constant_tree c.args.expr.now _ c.in-Const.level _ c.in-Const.n (to_z-of_z w128 c.in-Const.level level_fits) (to_z-of_z w128 c.in-Const.n n_fits) c.in-Const.is) c.recall_constant.ensures
 
-pub recall-returns-in-Fold : goal.recall-returns-in-Fold
-recall-returns-in-Fold t c =
+pub recall_any-returns-in-Fold : goal.recall_any-returns-in-Fold
+recall_any-returns-in-Fold t c =
     subst (λ (u : Tree). IfSome c.recall_fold.result (IsKept c.args.self.now u))
     (sym (fold_tree c.args.expr.now c.in-Fold.word c.in-Fold.es c.items.result.now c.in-Fold.is c.items.ensures)) c.recall_fold.ensures
 
-pub recall-returns-in-Ite : goal.recall-returns-in-Ite
-recall-returns-in-Ite t c =
+pub recall_any-returns-in-Ite : goal.recall_any-returns-in-Ite
+recall_any-returns-in-Ite t c =
     subst (λ (u : Tree). IfSome c.recall_choice.result (IsKept c.args.self.now u))
     (sym (choice_tree c.args.expr.now c.in-Ite.es c.items-in-Ite.result.now c.in-Ite.is c.items-in-Ite.ensures)) c.recall_choice.ensures
 
-pub recall-returns-in_ok-f-in-One : goal.recall-returns-in_ok-f-in-One
-recall-returns-in_ok-f-in-One t c =
+pub recall_any-returns-in_ok-f-in-One : goal.recall_any-returns-in_ok-f-in-One
+recall_any-returns-in_ok-f-in-One t c =
     let is : tree_of c.args.expr.now ≡ Call (One c.in-One.word) (more (tree_of c.deref.result.now) none) = search rules in
     subst (λ (u : Tree). IfSome c.known_map.result (IsKept c.args.self.now u)) (sym is)
     (one_found c.args.self.now c.in-One.word (tree_of c.deref.result.now) c.in_ok-f-in-One.f c.known_map.result c.in_ok-f-in-One.ensures
