@@ -1,8 +1,8 @@
--- What std tells of the reader and the writer that an adapter stands over, and what the adapter hands on.
-use Rattle.std.specs.Prelude.{ℕ, List, [], take, false, Option, IsTrue}
+-- What adapters show, what std tells of the reader and the writer that they stand over, and what they hand on.
+use Rattle.std.specs.Prelude.{ℕ, List, [], take, Bool, false, Option, IsTrue}
 use Rattle.std.specs.Io.KnownBytes.{Appends, Consumes, IsAtEnd}
 use Rattle.cf_io.specs.Reading.{count_of, is_end}
-use Rattle.cf_io.specs.Shown.{SinkView, SourceView}
+use Rattle.cf_io.specs.Shown.{FilesView, SinkView, SourceView}
 use Rattle.cf_io.specs.declared.adapters.HostSink.{HostSink}
 use Rattle.cf_io.specs.declared.adapters.HostSource.{HostSource}
 use Rattle.cf_io.specs.declared.sink.Put.{Put}
@@ -27,6 +27,20 @@ unread_reader_view = record { tells = false; left = []; read = []; taken = 0; en
 -- a sink over a writer tells no bytes
 abbrev pub writer_view : {W : Type 0} → HostSink W → SinkView
 writer_view s = record { tells = false; written = []; faults = s.faults }
+
+-- the files of a folder tell no bytes
+abbrev pub folder_view : Bool → ℕ → Bool → ℕ → ℕ → FilesView
+folder_view opened given ended misses faults = record {
+  tells = false;
+  entries = [];
+  name = [];
+  left = [];
+  opened = opened;
+  given = given;
+  ended = ended;
+  misses = misses;
+  faults = faults;
+}
 
 -- the bytes that the reader of a source has left, where std tells them
 abbrev pub reader_left : {R : Type 0} → (R → Option (List ℕ)) → HostSource R → Option (List ℕ)

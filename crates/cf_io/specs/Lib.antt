@@ -10,4 +10,5 @@ pub mod Answers
 pub mod LineSteps
 pub mod Windows
 pub mod Memory
+pub mod Sure
 pub mod Adapters

@@ -67,7 +67,7 @@ impl<R: Read> Source for HostSource<R> {
 }
 
 /// Reads once, and tells an end from a failure.
-fn read_some<R: Read>(reader: &mut R, buf: &mut [u8]) -> Got
+pub(crate) fn read_some<R: Read>(reader: &mut R, buf: &mut [u8]) -> Got
     requires { 0 < length buf.old }
     ensures bound { GotWithin result (length buf.new) }
     ensures hands_on { HandsOn (R.remaining reader.old) (R.remaining reader.new) result buf.new }

@@ -1,6 +1,6 @@
 //! The calls of a form in memory.
 
-ghost use Rattle.std.specs.Prelude.{◌≡◌, ℕ, ◌+◌, ◌<◌, ◌≤◌, List, [], ◌++◌, length, take, drop};
+ghost use Rattle.std.specs.Prelude.{◌≡◌, ◌↔◌, ℕ, ◌+◌, ◌<◌, ◌≤◌, max, List, [], ◌++◌, length, take, drop};
 ghost use Rattle.cf_io.specs.Causes.{Counts, HasCause, one_more};
 ghost use Rattle.cf_io.specs.Pieces.{is_listed, piece_length};
 
@@ -53,7 +53,7 @@ impl Calls {
 }
 
 /// How many of `all` bytes a read gives that begins at place `at`.
-pub(crate) fn piece_len(at: usize, piece: usize, cut: usize, room: usize, all: usize) -> usize
+fn piece_len(at: usize, piece: usize, cut: usize, room: usize, all: usize) -> usize
     requires piece { 1 ≤ piece }
     requires at { at ≤ all }
     ensures { result ≡ piece_length at piece cut room all }
@@ -63,8 +63,28 @@ pub(crate) fn piece_len(at: usize, piece: usize, cut: usize, room: usize, all: u
     (piece - at % piece).min(to_cut).min(room.min(rest))
 }
 
+/// Copies the bytes that a read gives that begins at place `at` to the front of the buffer, and
+/// answers how many they are: none where no byte is left.
+pub(crate) fn copy_piece(bytes: &[u8], at: usize, piece: usize, cut: usize, buf: &mut [u8]) -> usize
+    requires piece { 1 ≤ piece }
+    requires room { 0 < length buf.old }
+    ensures count { result ≡ piece_length at piece cut (length buf.old) (length bytes.now) }
+    ensures none { (result ≡ 0) ↔ (length bytes.now ≤ at) }
+    ensures within { at + result ≤ max at (length bytes.now) }
+    ensures room { result ≤ length buf.new }
+    ensures rest { drop at bytes.now ≡ take result buf.new ++ drop (at + result) bytes.now }
+    ensures before { take (at + result) bytes.now ≡ take at bytes.now ++ take result buf.new }
+{
+    if bytes.len() <= at {
+        return 0;
+    }
+    let count = piece_len(at, piece, cut, buf.len(), bytes.len());
+    copy_front(bytes, at, count, buf);
+    count
+}
+
 /// Copies `count` bytes from place `at` on to the front of the buffer.
-pub(crate) fn copy_front(bytes: &[u8], at: usize, count: usize, buf: &mut [u8])
+fn copy_front(bytes: &[u8], at: usize, count: usize, buf: &mut [u8])
     requires within { at + count ≤ length bytes.now }
     requires room { count ≤ length buf.old }
     ensures front { take count buf.new ≡ take count (drop at bytes.now) }

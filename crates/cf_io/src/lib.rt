@@ -4,6 +4,7 @@
 mod adapters;
 mod calls;
 mod files;
+mod host_files;
 mod lines;
 mod mem_files;
 mod mem_sink;
@@ -13,10 +14,11 @@ mod source;
 
 pub use adapters::{HostSink, HostSource};
 pub use files::{Files, Opened};
+pub use host_files::HostFiles;
 pub use lines::{Lines, Next};
-pub use mem_files::MemFiles;
+pub use mem_files::{MemFiles, SureFiles};
 pub use mem_sink::MemSink;
-pub use mem_source::MemSource;
+pub use mem_source::{MemSource, SureSource};
 pub use sink::{Put, Sink, put_all};
 pub use source::{Got, Source};
 

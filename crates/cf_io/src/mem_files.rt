@@ -4,7 +4,7 @@ ghost use Rattle.std.specs.Prelude.{◌≡◌, ℕ, ◌<◌, ◌≤◌, true, le
 ghost use Rattle.cf_io.specs.Contents.{content_at, content_or_nothing, entries_of, name_or_nothing};
 ghost use Rattle.cf_io.specs.Opening.{content_of};
 
-use crate::calls::{Calls, copy_front, piece_len};
+use crate::calls::{Calls, copy_piece};
 use crate::files::{Files, Opened};
 use crate::source::Got;
 
@@ -119,13 +119,103 @@ impl Files for MemFiles {
             return Got::Failed;
         }
         let bytes = content(&self.files, self.place);
-        let all = bytes.len();
-        if all <= self.at {
+        let count = copy_piece(bytes, self.at, self.piece, 0, buf);
+        if count == 0 {
             self.ended = true;
             return Got::End;
         }
-        let count = piece_len(self.at, self.piece, 0, buf.len(), all);
-        copy_front(bytes, self.at, count, buf);
+        self.at += count;
+        Got::Got(count)
+    }
+}
+
+/// Files in memory of which no call fails. A read ends at the next multiple of `piece`, at the
+/// buffer's end or at the last byte.
+#[derive(Drop)]
+pub struct SureFiles {
+    files: Vec<(Vec<u8>, Vec<u8>)>,
+    piece: usize,
+    place: usize,
+    at: usize,
+    opened: bool,
+    ended: bool,
+    misses: u64,
+    ghost positive: { 1 ≤ piece },
+}
+
+impl SureFiles {
+    ghost use Rattle.std.specs.Prelude.{[]};
+    ghost use Rattle.cf_io.specs.Memory.{IsUnread, new_shelf};
+    ghost use Rattle.cf_io.specs.Sure.{sure_files_view, sure_shelf};
+
+    /// Files of which none is open. Where a name stands twice, its first content counts.
+    pub fn new(files: Vec<(Vec<u8>, Vec<u8>)>, piece: usize) -> SureFiles
+        requires { 1 ≤ piece }
+        ensures shelf { sure_shelf result ≡ new_shelf (entries_of files.items) piece [] }
+        ensures unread { IsUnread (sure_files_view result) (entries_of files.items) }
+    {
+        SureFiles {
+            files,
+            piece,
+            place: 0,
+            at: 0,
+            opened: false,
+            ended: false,
+            misses: 0,
+        }
+    }
+}
+
+impl Files for SureFiles {
+    ghost use Rattle.std.specs.Prelude.{false};
+    ghost use Rattle.cf_io.specs.Memory.{open_answer, read_answer};
+    ghost use Rattle.cf_io.specs.Opening.{CountsOpens, is_open_failed, Opens, ReadsOn};
+    ghost use Rattle.cf_io.specs.Reading.{GotWithin, is_failed};
+    ghost use Rattle.cf_io.specs.Sure.{moved, sure_file_reader, sure_files_view, sure_shelf};
+
+    ghost shown = { sure_files_view };
+
+    fn open(&mut self, wanted: &[u8]) -> Opened
+        ensures answer { result ≡ open_answer (sure_shelf self.old) wanted.now }
+        ensures shelf { sure_shelf self.new ≡ sure_shelf self.old }
+        ensures opens { Opens (sure_files_view self.old) (sure_files_view self.new)
+            wanted.now result }
+        ensures counts { CountsOpens (sure_files_view self.old) (sure_files_view self.new) result }
+        ensures sure { is_open_failed result ≡ false }
+    {
+        self.at = 0;
+        self.ended = false;
+        self.opened = false;
+        match place_of(&self.files, wanted) {
+            Some(place) => {
+                self.place = place;
+                self.opened = true;
+                Opened::Opened
+            }
+            None => {
+                self.misses = self.misses.saturating_add(1);
+                Opened::Missing
+            }
+        }
+    }
+
+    fn read(&mut self, buf: &mut [u8]) -> Got
+        requires opened { (sure_files_view self.old).opened ≡ true }
+        requires room { 0 < length buf.old }
+        ensures answer { result ≡ read_answer (sure_file_reader self.old) (length buf.old) }
+        ensures reader { sure_file_reader self.new ≡ moved (sure_file_reader self.old) result }
+        ensures shelf { sure_shelf self.new ≡ sure_shelf self.old }
+        ensures bound { GotWithin result (length buf.new) }
+        ensures reads { ReadsOn (sure_files_view self.old) (sure_files_view self.new)
+            result buf.new }
+        ensures sure { is_failed result ≡ false }
+    {
+        let bytes = content(&self.files, self.place);
+        let count = copy_piece(bytes, self.at, self.piece, 0, buf);
+        self.ended = count == 0;
+        if count == 0 {
+            return Got::End;
+        }
         self.at += count;
         Got::Got(count)
     }
