@@ -1,10 +1,12 @@
 -- What adapters show, what std tells of the reader and the writer that they stand over, and what they hand on.
-use Rattle.std.specs.Prelude.{ℕ, List, [], take, Bool, false, Option, IsTrue}
+use Rattle.std.specs.Prelude.{ℕ, List, [], take, false, is_some, Option, IsTrue}
+use Rattle.std.specs.Option.{option_and_then}
 use Rattle.std.specs.Io.KnownBytes.{Appends, Consumes, IsAtEnd}
 use Rattle.cf_io.specs.Reading.{count_of, is_end}
 use Rattle.cf_io.specs.Shown.{FilesView, SinkView, SourceView}
 use Rattle.cf_io.specs.declared.adapters.HostSink.{HostSink}
 use Rattle.cf_io.specs.declared.adapters.HostSource.{HostSource}
+use Rattle.cf_io.specs.declared.host_files.HostFiles.{HostFiles}
 use Rattle.cf_io.specs.declared.sink.Put.{Put}
 use Rattle.cf_io.specs.declared.sink.Put.TheVariants as put
 use Rattle.cf_io.specs.declared.source.Got.{Got}
@@ -29,17 +31,31 @@ abbrev pub writer_view : {W : Type 0} → HostSink W → SinkView
 writer_view s = record { tells = false; written = []; faults = s.faults }
 
 -- the files of a folder tell no bytes
-abbrev pub folder_view : Bool → ℕ → Bool → ℕ → ℕ → FilesView
-folder_view opened given ended misses faults = record {
+abbrev pub folder_view : {R F D : Type 0} → HostFiles R F D → FilesView
+folder_view s = record {
   tells = false;
   entries = [];
   name = [];
   left = [];
-  opened = opened;
-  given = given;
-  ended = ended;
-  misses = misses;
-  faults = faults;
+  opened = is_some s.file;
+  given = s.given;
+  ended = s.ended;
+  misses = s.misses;
+  faults = s.faults;
+}
+
+-- what they show where none was asked for
+abbrev pub unopened_folder_view : FilesView
+unopened_folder_view = record {
+  tells = false;
+  entries = [];
+  name = [];
+  left = [];
+  opened = false;
+  given = 0;
+  ended = false;
+  misses = 0;
+  faults = 0;
 }
 
 -- the bytes that the reader of a source has left, where std tells them
@@ -49,6 +65,10 @@ reader_left remaining s = remaining s.reader
 -- the bytes that the writer of a sink has, where std tells them
 abbrev pub writer_has : {W : Type 0} → (W → Option (List ℕ)) → HostSink W → Option (List ℕ)
 writer_has contents s = contents s.writer
+
+-- the bytes that the open file has left, where std tells them
+abbrev pub file_left : {R F D : Type 0} → (F → Option (List ℕ)) → HostFiles R F D → Option (List ℕ)
+file_left remaining s = option_and_then remaining s.file
 
 -- a read hands on the bytes that the reader gave, and answers the end only where the reader has none left
 pub record HandsOn (old new : Option (List ℕ)) (answer : Got) (buf : List ℕ) : Type 0 where

@@ -1,5 +1,11 @@
 //! The files of the current folder.
 
+ghost use Rattle.std.specs.Prelude.{◌≡◌, ℕ, ◌<◌, true, length};
+ghost use Rattle.std.specs.Str.{IsUtf8};
+ghost use Rattle.cf_io.specs.Adapters.{file_left, folder_view, HandsOn, unopened_folder_view};
+ghost use Rattle.cf_io.specs.Opening.{Opens, ReadsOn};
+ghost use Rattle.cf_io.specs.Reading.{GotWithin};
+
 use crate::adapters::read_some;
 use crate::files::{Files, Opened};
 use crate::source::Got;
@@ -22,7 +28,9 @@ pub struct HostFiles<R: SystemFiles> {
 
 impl<R: SystemFiles> HostFiles<R> {
     /// Files of which none is open. Opening one takes no memory.
-    pub fn new(runtime: R, _alloc: Global) -> HostFiles<R> {
+    pub fn new(runtime: R, _alloc: Global) -> HostFiles<R>
+        ensures { folder_view result ≡ unopened_folder_view }
+    {
         HostFiles {
             runtime,
             file: None,
@@ -35,12 +43,12 @@ impl<R: SystemFiles> HostFiles<R> {
 }
 
 impl<R: SystemFiles + Drop> Files for HostFiles<R> {
-    ghost use Rattle.std.specs.Prelude.{is_some};
-    ghost use Rattle.cf_io.specs.Adapters.{folder_view};
+    ghost shown = { folder_view };
 
-    ghost shown = { λ s. folder_view (is_some s.file) s.given s.ended s.misses s.faults };
-
-    fn open(&mut self, wanted: &[u8]) -> Opened {
+    fn open(&mut self, wanted: &[u8]) -> Opened
+        ensures opens { Opens (folder_view self.old) (folder_view self.new) wanted.now result }
+        ensures no_text { ¬ (IsUtf8 wanted.now) → result ≡ Opened.Missing }
+    {
         self.file = None;
         self.given = 0;
         self.ended = false;
@@ -64,7 +72,14 @@ impl<R: SystemFiles + Drop> Files for HostFiles<R> {
         }
     }
 
-    fn read(&mut self, buf: &mut [u8]) -> Got {
+    fn read(&mut self, buf: &mut [u8]) -> Got
+        requires opened { (folder_view self.old).opened ≡ true }
+        requires room { 0 < length buf.old }
+        ensures bound { GotWithin result (length buf.new) }
+        ensures reads { ReadsOn (folder_view self.old) (folder_view self.new) result buf.new }
+        ensures hands_on { HandsOn (file_left R.File.remaining self.old)
+            (file_left R.File.remaining self.new) result buf.new }
+    {
         self.ended = false;
         let room = buf.len() as u64;
         let got = match &mut self.file {
