@@ -7,7 +7,7 @@ ghost use Rattle.cf_circuits.specs.Kept.{IsModel, IsNetlist};
 ghost use Rattle.cf_links.specs.Faults.{HasNoNameFault, IsNameFault, first_fault as first_fault_of};
 
 mod calls;
-mod directory;
+pub mod directory;
 pub mod faults;
 mod kinds;
 mod parts;

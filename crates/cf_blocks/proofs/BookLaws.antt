@@ -1,0 +1,147 @@
+-- A model that drives no signal twice: its signals differ, so a book that they are added to has them in order.
+use Rattle.std.proofs.Common.{ℕ, suc, ◌≡◌, ◌+◌, ◌≤◌, ◌||◌, Bool, true, false, cond, List, [], ◌∷◌, ◌++◌, map, Option, Some, None, refl, sym, ◌∙◌, ap, subst, arith, append_assoc}
+use Rattle.std.specs.Prelude.{nat_lt}
+use Rattle.std.specs.Str.{bytes_eq}
+use Rattle.std.proofs.lemmas.Slice.Eq.{bytes_eq-Decides}
+use Rattle.std.proofs.lemmas.List.{append-nil}
+use Rattle.std.proofs.lemmas.List.Folds.{list_any-append}
+use Rattle.cf_model.specs.Renumbering.{distinct_on, note}
+use Rattle.cf_circuits.specs.declared.gates.Gate.{Gate}
+use Rattle.cf_circuits.specs.declared.pins.Call.{Call}
+use Rattle.cf_circuits.specs.declared.models.ModelDef.{ModelDef}
+use Rattle.cf_links.specs.Parts.{Part, AGate, ACall, line_of, put, merged, parts}
+use Rattle.cf_links.specs.Links.{gathered, is_among, drives, driven, repeated, twice_driven, actuals, is_output, callee}
+use Rattle.cf_blocks.specs.Numbering.{signals}
+
+-- how often a name stands among names
+count : List (List ℕ) → List ℕ → ℕ
+count [] name = 0
+count (x ∷ xs) name = cond (bytes_eq x name) 1 0 + count xs name
+
+count-append : (xs ys : List (List ℕ)) (name : List ℕ) → count (xs ++ ys) name ≡ count xs name + count ys name
+count-append [] ys name = refl
+count-append (x ∷ xs) ys name = let later = count-append xs ys name in omega (arith, later)
+
+-- no name stands twice
+abbrev Once : List (List ℕ) → Type 0
+Once names = (name : List ℕ) → count names name ≤ 1
+
+same-name : (x : List ℕ) → bytes_eq x x ≡ true
+same-name x = (bytes_eq-Decides x x).1 refl
+
+counted : (names : List (List ℕ)) (name : List ℕ) → is_among names name ≡ true → 1 ≤ count names name
+counted [] name h = cc
+counted (x ∷ xs) name h = by (bytes_eq x name) h (counted xs name)
+  where
+    by : (b : Bool) → (b || is_among xs name) ≡ true → (is_among xs name ≡ true → 1 ≤ count xs name)
+        → 1 ≤ cond b 1 0 + count xs name
+    by true h later = omega arith
+    by false h later = later h
+
+-- names of which none stands twice are noted one behind another
+distinct-once : (seen xs : List (List ℕ)) → Once (seen ++ xs) → distinct_on bytes_eq seen xs ≡ seen ++ xs
+distinct-once seen [] once = sym (append-nil seen)
+distinct-once seen (x ∷ xs) once = by (is_among seen x) refl (distinct-once (seen ++ x ∷ []) xs)
+  where
+    by : (b : Bool) → is_among seen x ≡ b
+        → (Once ((seen ++ x ∷ []) ++ xs) → distinct_on bytes_eq (seen ++ x ∷ []) xs ≡ (seen ++ x ∷ []) ++ xs)
+        → distinct_on bytes_eq (cond b seen (seen ++ x ∷ [])) xs ≡ seen ++ x ∷ xs
+    by true h later =
+        let most : count (seen ++ x ∷ xs) x ≤ 1 = once x in
+        let here : count (x ∷ xs) x ≡ 1 + count xs x = ap (λ b. cond b 1 0 + count xs x) (same-name x) in
+        let all = count-append seen (x ∷ xs) x in
+        let before = counted seen x h in
+        absurd (omega (arith, most, here, all, before))
+    by false h later = later (subst Once (sym (append_assoc seen (x ∷ []) xs)) once) ∙ append_assoc seen (x ∷ []) xs
+
+pub distinct-append : (seen xs ys : List (List ℕ)) → distinct_on bytes_eq seen (xs ++ ys) ≡ distinct_on bytes_eq (distinct_on bytes_eq seen xs) ys
+distinct-append seen [] ys = refl
+distinct-append seen (x ∷ xs) ys = distinct-append (note bytes_eq seen x) xs ys
+
+-- where no name is repeated, none stands twice, nor behind others that were seen
+unrepeated : (seen xs : List (List ℕ)) (name : List ℕ) → repeated seen xs ≡ None → count xs name + cond (is_among seen name) 1 0 ≤ 1
+unrepeated seen [] name h = by (is_among seen name)
+  where
+    by : (b : Bool) → cond b 1 0 ≤ 1
+    by true = omega arith
+    by false = omega arith
+unrepeated seen (x ∷ xs) name h = by (is_among seen x) refl h (unrepeated (seen ++ x ∷ []) xs name)
+  where
+    at : (s t : Bool) → is_among seen x ≡ false → is_among seen name ≡ s → bytes_eq x name ≡ t
+        → count xs name + cond (s || (t || false)) 1 0 ≤ 1
+        → (cond t 1 0 + count xs name) + cond s 1 0 ≤ 1
+    at true true new p q later =
+        let no : true ≡ false = sym p ∙ subst (λ other. is_among seen other ≡ false) ((bytes_eq-Decides x name).0 q) new in cc
+    at true false new p q later = later
+    at false true new p q later = omega (arith, later)
+    at false false new p q later = later
+
+    by : (b : Bool) → is_among seen x ≡ b → cond b (Some x) (repeated (seen ++ x ∷ []) xs) ≡ None
+        → (repeated (seen ++ x ∷ []) xs ≡ None → count xs name + cond (is_among (seen ++ x ∷ []) name) 1 0 ≤ 1)
+        → (cond (bytes_eq x name) 1 0 + count xs name) + cond (is_among seen name) 1 0 ≤ 1
+    by true e h later = cc
+    by false e h later =
+        at (is_among seen name) (bytes_eq x name) e refl refl
+        (subst (λ b. count xs name + cond b 1 0 ≤ 1) (list_any-append (λ other. bytes_eq other name) seen (x ∷ [])) (later h))
+
+-- what parts drive, wherever a call is put
+count-put : (models : List ModelDef) (c : Call) (ps : List Part) (name : List ℕ)
+    → count (gathered (drives models) (put c ps)) name
+    ≡ count (drives models (ACall c)) name + count (gathered (drives models) ps) name
+count-put models c [] name = count-append (drives models (ACall c)) [] name
+count-put models c (part ∷ later) name = by (nat_lt (line_of part) c.line) (count-put models c later name)
+  where
+    by : (b : Bool)
+        → count (gathered (drives models) (put c later)) name
+        ≡ count (drives models (ACall c)) name + count (gathered (drives models) later) name
+        → count (gathered (drives models) (cond b (part ∷ put c later) (ACall c ∷ part ∷ later))) name
+        ≡ count (drives models (ACall c)) name + count (gathered (drives models) (part ∷ later)) name
+    by true rest =
+        let put_all = count-append (drives models part) (gathered (drives models) (put c later)) name in
+        let all = count-append (drives models part) (gathered (drives models) later) name in
+        omega (arith, rest, put_all, all)
+    by false rest = count-append (drives models (ACall c)) (gathered (drives models) (part ∷ later)) name
+
+gates-drive : (models : List ModelDef) (gates : List Gate) → gathered (drives models) (map AGate gates) ≡ map (λ g. g.out) gates
+gates-drive models [] = refl
+gates-drive models (g ∷ gates) = ap (λ names. g.out ∷ names) (gates-drive models gates)
+
+-- what calls drive
+abbrev by-calls : List ModelDef → List Call → List (List ℕ)
+by-calls models calls = gathered (λ c. actuals (is_output (callee models c)) c.pins) calls
+
+count-merged : (models : List ModelDef) (gates : List Gate) (calls : List Call) (name : List ℕ)
+    → count (gathered (drives models) (merged gates calls)) name
+    ≡ count (map (λ g. g.out) gates) name + count (by-calls models calls) name
+count-merged models gates [] name =
+    let outs = ap (λ names. count names name) (gates-drive models gates) in omega (arith, outs)
+count-merged models gates (c ∷ calls) name =
+    let put_all = count-put models c (merged gates calls) name in
+    let later = count-merged models gates calls name in
+    let all = count-append (drives models (ACall c)) (by-calls models calls) name in
+    omega (arith, put_all, later, all)
+
+signals-once : (models : List ModelDef) (m : ModelDef) → twice_driven models m ≡ None → Once (signals models m)
+signals-once models m none name =
+    let most = unrepeated [] (driven models m) name none in
+    let ins = count-append m.inputs (gathered (drives models) (parts m)) name in
+    let rest = count-merged models m.gates m.calls name in
+    let behind = count-append (map (λ g. g.out) m.gates) (by-calls models m.calls) name in
+    let all = count-append m.inputs (map (λ g. g.out) m.gates ++ by-calls models m.calls) name in
+    omega (arith, most, ins, rest, behind, all)
+
+-- inputs, gates' outputs and what calls drive, added to an empty book
+pub all-added : (models : List ModelDef) (m : ModelDef) (empty first second third inputs : List (List ℕ)) (gates : List Gate)
+    (calls : List Call) → twice_driven models m ≡ None → empty ≡ [] → inputs ≡ m.inputs → gates ≡ m.gates → calls ≡ m.calls
+    → first ≡ distinct_on bytes_eq empty inputs → second ≡ distinct_on bytes_eq first (map (λ g. g.out) gates)
+    → third ≡ distinct_on bytes_eq second (by-calls models calls) → third ≡ signals models m
+all-added models m empty first second third inputs gates calls none e i g c one two three =
+    let outs : List (List ℕ) = map (λ (x : Gate). x.out) m.gates in
+    let backs : List (List ℕ) = by-calls models m.calls in
+    three ∙ ap (λ cs. distinct_on bytes_eq second (by-calls models cs)) c
+    ∙ ap (λ b. distinct_on bytes_eq b backs)
+    (two ∙ ap (λ (gs : List Gate). distinct_on bytes_eq first (map (λ x. x.out) gs)) g
+    ∙ ap (λ b. distinct_on bytes_eq b outs) (one ∙ ap (λ b. distinct_on bytes_eq b inputs) e ∙ ap (distinct_on bytes_eq []) i))
+    ∙ sym (distinct-append (distinct_on bytes_eq [] m.inputs) outs backs)
+    ∙ sym (distinct-append [] m.inputs (outs ++ backs))
+    ∙ distinct-once [] (signals models m) (signals-once models m none)
