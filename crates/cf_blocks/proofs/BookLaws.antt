@@ -1,12 +1,14 @@
 -- A model that drives no signal twice: its signals differ, so a book that they are added to has them in order.
-use Rattle.std.proofs.Common.{ℕ, suc, ◌≡◌, ◌+◌, ◌≤◌, ◌||◌, Bool, true, false, cond, List, [], ◌∷◌, ◌++◌, map, Option, Some, None, refl, sym, ◌∙◌, ap, subst, arith, append_assoc}
+use Rattle.std.proofs.Common.{ℕ, suc, ◌≡◌, ◌+◌, ◌<◌, ◌≤◌, ◌||◌, Bool, true, false, cond, List, [], ◌∷◌, ◌++◌, length, drop, get_or, map, Some, None, refl, sym, ◌∙◌, ap, subst, arith, append_assoc}
 use Rattle.std.specs.Prelude.{nat_lt}
 use Rattle.std.specs.Str.{bytes_eq}
 use Rattle.std.proofs.lemmas.Slice.Eq.{bytes_eq-Decides}
-use Rattle.std.proofs.lemmas.List.{append-nil}
+use Rattle.std.proofs.lemmas.List.{append-nil, drop_all, drop_more}
 use Rattle.std.proofs.lemmas.List.Folds.{list_any-append}
-use Rattle.cf_model.specs.Renumbering.{distinct_on, note}
+use Rattle.cf_model.specs.Renumbering.{AllDiffer, IsNew, distinct_on, note, place}
+use Rattle.cf_names.specs.Numbers.{number_of}
 use Rattle.cf_circuits.specs.declared.gates.Gate.{Gate}
+use Rattle.cf_circuits.specs.declared.pins.Pin.{Pin}
 use Rattle.cf_circuits.specs.declared.pins.Call.{Call}
 use Rattle.cf_circuits.specs.declared.models.ModelDef.{ModelDef}
 use Rattle.cf_links.specs.Parts.{Part, AGate, ACall, line_of, put, merged, parts}
@@ -14,12 +16,12 @@ use Rattle.cf_links.specs.Links.{gathered, is_among, drives, driven, repeated, t
 use Rattle.cf_blocks.specs.Numbering.{signals}
 
 -- how often a name stands among names
-count : List (List ℕ) → List ℕ → ℕ
+abbrev count : List (List ℕ) → List ℕ → ℕ
 count [] name = 0
 count (x ∷ xs) name = cond (bytes_eq x name) 1 0 + count xs name
 
 count-append : (xs ys : List (List ℕ)) (name : List ℕ) → count (xs ++ ys) name ≡ count xs name + count ys name
-count-append [] ys name = refl
+count-append [] ys name = omega arith
 count-append (x ∷ xs) ys name = let later = count-append xs ys name in omega (arith, later)
 
 -- no name stands twice
@@ -36,7 +38,7 @@ counted (x ∷ xs) name h = by (bytes_eq x name) h (counted xs name)
     by : (b : Bool) → (b || is_among xs name) ≡ true → (is_among xs name ≡ true → 1 ≤ count xs name)
         → 1 ≤ cond b 1 0 + count xs name
     by true h later = omega arith
-    by false h later = later h
+    by false h later = let rest = later h in omega (arith, rest)
 
 -- names of which none stands twice are noted one behind another
 distinct-once : (seen xs : List (List ℕ)) → Once (seen ++ xs) → distinct_on bytes_eq seen xs ≡ seen ++ xs
@@ -54,6 +56,38 @@ distinct-once seen (x ∷ xs) once = by (is_among seen x) refl (distinct-once (s
         absurd (omega (arith, most, here, all, before))
     by false h later = later (subst Once (sym (append_assoc seen (x ∷ []) xs)) once) ∙ append_assoc seen (x ∷ []) xs
 
+-- a name that is new stands nowhere
+absent : (names : List (List ℕ)) (name : List ℕ) → IsNew names name → count names name ≡ 0
+absent [] name new = refl
+absent (x ∷ xs) name new = by (bytes_eq x name) refl (absent xs name (λ k e. new (suc k) e))
+  where
+    by : (b : Bool) → bytes_eq x name ≡ b → count xs name ≡ 0 → cond b 1 0 + count xs name ≡ 0
+    by true e later = absurd (new 0 (ap Some ((bytes_eq-Decides x name).0 e)))
+    by false e later = omega (arith, later)
+
+-- of names that differ none stands twice
+differ-once : (names : List (List ℕ)) → AllDiffer names → Once names
+differ-once [] differ name = omega arith
+differ-once (x ∷ xs) differ name = by (bytes_eq x name) refl (differ-once xs later name)
+  where
+    later : AllDiffer xs
+    later = λ j k y p q. let same = differ (suc j) (suc k) y p q in omega (arith, same)
+
+    by : (b : Bool) → bytes_eq x name ≡ b → count xs name ≤ 1 → cond b 1 0 + count xs name ≤ 1
+    by true e rest =
+        let none = absent xs name (λ k p. let same = differ 0 (suc k) x refl (p ∙ ap Some (sym ((bytes_eq-Decides x name).0 e))) in omega (arith, same)) in
+        omega (arith, none)
+    by false e rest = omega (arith, rest)
+
+-- the formals of pins that differ, added to an empty book
+pub formals-added : (pins : List Pin) (book : List (List ℕ)) (i : ℕ) → AllDiffer (map (λ p. p.formal) pins)
+    → distinct_on bytes_eq book (map (λ p. p.formal) (drop i pins)) ≡ distinct_on bytes_eq [] (map (λ p. p.formal) pins)
+    → length pins ≤ i → book ≡ map (λ p. p.formal) pins
+formals-added pins book i differ all past =
+    let names : List (List ℕ) = map (λ (p : Pin). p.formal) pins in
+    ap (λ (ps : List Pin). distinct_on bytes_eq book (map (λ p. p.formal) ps)) (sym (drop_all i pins past))
+    ∙ all ∙ distinct-once [] names (differ-once names differ)
+
 pub distinct-append : (seen xs ys : List (List ℕ)) → distinct_on bytes_eq seen (xs ++ ys) ≡ distinct_on bytes_eq (distinct_on bytes_eq seen xs) ys
 distinct-append seen [] ys = refl
 distinct-append seen (x ∷ xs) ys = distinct-append (note bytes_eq seen x) xs ys
@@ -62,7 +96,7 @@ distinct-append seen (x ∷ xs) ys = distinct-append (note bytes_eq seen x) xs y
 unrepeated : (seen xs : List (List ℕ)) (name : List ℕ) → repeated seen xs ≡ None → count xs name + cond (is_among seen name) 1 0 ≤ 1
 unrepeated seen [] name h = by (is_among seen name)
   where
-    by : (b : Bool) → cond b 1 0 ≤ 1
+    by : (b : Bool) → 0 + cond b 1 0 ≤ 1
     by true = omega arith
     by false = omega arith
 unrepeated seen (x ∷ xs) name h = by (is_among seen x) refl h (unrepeated (seen ++ x ∷ []) xs name)
@@ -72,9 +106,9 @@ unrepeated seen (x ∷ xs) name h = by (is_among seen x) refl h (unrepeated (see
         → (cond t 1 0 + count xs name) + cond s 1 0 ≤ 1
     at true true new p q later =
         let no : true ≡ false = sym p ∙ subst (λ other. is_among seen other ≡ false) ((bytes_eq-Decides x name).0 q) new in cc
-    at true false new p q later = later
+    at true false new p q later = omega (arith, later)
     at false true new p q later = omega (arith, later)
-    at false false new p q later = later
+    at false false new p q later = omega (arith, later)
 
     by : (b : Bool) → is_among seen x ≡ b → cond b (Some x) (repeated (seen ++ x ∷ []) xs) ≡ None
         → (repeated (seen ++ x ∷ []) xs ≡ None → count xs name + cond (is_among (seen ++ x ∷ []) name) 1 0 ≤ 1)
@@ -114,7 +148,9 @@ count-merged : (models : List ModelDef) (gates : List Gate) (calls : List Call) 
     → count (gathered (drives models) (merged gates calls)) name
     ≡ count (map (λ g. g.out) gates) name + count (by-calls models calls) name
 count-merged models gates [] name =
-    let outs = ap (λ names. count names name) (gates-drive models gates) in omega (arith, outs)
+    let outs : count (gathered (drives models) (merged gates [])) name ≡ count (map (λ (g : Gate). g.out) gates) name = ap (λ names. count names name) (gates-drive models gates) in
+    let none : count (by-calls models []) name ≡ 0 = refl in
+    omega (arith, outs, none)
 count-merged models gates (c ∷ calls) name =
     let put_all = count-put models c (merged gates calls) name in
     let later = count-merged models gates calls name in
@@ -123,12 +159,42 @@ count-merged models gates (c ∷ calls) name =
 
 signals-once : (models : List ModelDef) (m : ModelDef) → twice_driven models m ≡ None → Once (signals models m)
 signals-once models m none name =
-    let most = unrepeated [] (driven models m) name none in
+    let most : count (m.inputs ++ gathered (drives models) (parts m)) name + 0 ≤ 1 = unrepeated [] (driven models m) name none in
     let ins = count-append m.inputs (gathered (drives models) (parts m)) name in
-    let rest = count-merged models m.gates m.calls name in
+    let rest : count (gathered (drives models) (parts m)) name ≡ count (map (λ (g : Gate). g.out) m.gates) name + count (by-calls models m.calls) name = count-merged models m.gates m.calls name in
     let behind = count-append (map (λ g. g.out) m.gates) (by-calls models m.calls) name in
     let all = count-append m.inputs (map (λ g. g.out) m.gates ++ by-calls models m.calls) name in
     omega (arith, most, ins, rest, behind, all)
+
+-- what one more call drives
+pub calls-next : (models : List ModelDef) (calls : List Call) (book now end : List (List ℕ)) (c : Call) (i : ℕ)
+    → distinct_on bytes_eq book (by-calls models (drop i calls)) ≡ end → i < length calls → c ≡ get_or calls i c
+    → now ≡ distinct_on bytes_eq book (actuals (is_output (callee models c)) c.pins)
+    → distinct_on bytes_eq now (by-calls models (drop (i + 1) calls)) ≡ end
+calls-next models calls book now end c i before within is noted =
+    let left : List Call = drop (i + 1) calls in
+    ap (λ b. distinct_on bytes_eq b (by-calls models left)) noted
+    ∙ sym (distinct-append book (actuals (is_output (callee models c)) c.pins) (by-calls models left))
+    ∙ ap (λ cs. distinct_on bytes_eq book (by-calls models cs)) (ap (λ x. x ∷ left) is ∙ sym (drop_more calls i c within))
+    ∙ before
+
+-- a name that isn't in a book has the number behind all
+lacks-place : (names : List (List ℕ)) (name : List ℕ) → is_among names name ≡ false → length names ≡ place bytes_eq names name
+lacks-place [] name h = refl
+lacks-place (other ∷ names) name h = by (bytes_eq other name) h (lacks-place names name)
+  where
+    by : (b : Bool) → (b || is_among names name) ≡ false → (is_among names name ≡ false → length names ≡ place bytes_eq names name)
+        → suc (length names) ≡ cond b 0 (suc (place bytes_eq names name))
+    by true h rest = cc
+    by false h rest = ap suc (rest h)
+
+pub missing-number : (names : List (List ℕ)) (name : List ℕ) (n : ℕ) → n ≡ length names → None ≡ number_of names name
+    → n ≡ place bytes_eq names name
+missing-number names name n is none = is ∙ lacks-place names name (by (is_among names name) none)
+  where
+    by : (b : Bool) → None ≡ cond b (Some (place bytes_eq names name)) None → b ≡ false
+    by true h = cc
+    by false h = refl
 
 -- inputs, gates' outputs and what calls drive, added to an empty book
 pub all-added : (models : List ModelDef) (m : ModelDef) (empty first second third inputs : List (List ℕ)) (gates : List Gate)

@@ -7,9 +7,7 @@ use Rattle.cf_circuits.specs.declared.gates.Gate as written
 use Rattle.cf_circuits.specs.declared.pins.Pin.{Pin}
 use Rattle.cf_circuits.specs.declared.pins.Call as named
 use Rattle.cf_circuits.specs.declared.models.ModelDef.{ModelDef}
-use Rattle.cf_hierarchy.specs.declared.gates.Gate.{Gate}
 use Rattle.cf_hierarchy.specs.declared.blocks.Driver.TheVariants.{Formal, Made, Back}
-use Rattle.cf_hierarchy.specs.declared.blocks.Call.{Call}
 use Rattle.cf_blocks.specs.Numbering.{signals, number, actual_of, drivers_of, call_of, blocks_of, weights_of, covers_of}
 
 abbrev conjunction : Cover

@@ -34,12 +34,7 @@ pub(crate) fn calls_of(
 }
 
 /// A call of the model at a place. A called model that isn't there has the place behind all.
-fn call_of(
-    alloc: Global,
-    numbers: &Numbers,
-    at: usize,
-    call: &NamedCall,
-) -> Result<Call, NoMemory>
+fn call_of(alloc: Global, numbers: &Numbers, at: usize, call: &NamedCall) -> Result<Call, NoMemory>
     requires place { at < length numbers.now }
     requires call { IsCall call.now }
     ensures { let model = slice_index_or numbers.now at no_model in
@@ -70,7 +65,7 @@ fn actuals_of(
     requires call { IsCall call.now }
     ensures { let model = slice_index_or numbers.now at no_model in
         IfOk result (λ wires. wires ≡ map
-            (λ name. number_of numbers.now model (actual_in call.now.pins name)) names.now) }
+        (λ name. number_of numbers.now model (actual_in call.now.pins name)) names.now) }
 {
     let pins = call.pins.items();
     let book = formals_of(alloc, pins)?;

@@ -100,7 +100,7 @@ fn add_call(
 ) -> Result<(), NoMemory>
     ensures { let callee = callee_of numbers.now call.now in
         OnOk result (drivers.new ≡ drivers.old
-            ++ backs_of (output_of callee) (number_of numbers.now callee) place call.now.pins) }
+        ++ backs_of (output_of callee) (number_of numbers.now callee) place call.now.pins) }
 {
     let Some(callee) = numbers.callee(call) else {
         return Ok(());

@@ -91,12 +91,7 @@ impl<'a> Numbers<'a> {
     }
 
     /// The numbers of signals of the model at a place.
-    pub fn number_all(
-        &self,
-        alloc: Global,
-        model: usize,
-        names: &[Name],
-    ) -> Result<Wires, NoMemory>
+    pub fn number_all(&self, alloc: Global, model: usize, names: &[Name]) -> Result<Wires, NoMemory>
         requires { model < length self.now }
         ensures { IfOk result (λ wires. wires
             ≡ map (number_of self.now (slice_index_or self.now model no_model)) names.now) }

@@ -1,4 +1,4 @@
-use Rattle.std.proofs.Common.{◌≡◌, map, take}
+use Rattle.std.proofs.Common.{◌≡◌, take}
 use Rattle.cf_blocks.specs.Numbering.{weights_of}
 use Rattle.cf_blocks.proofs.weights_of.Given as goal
 
