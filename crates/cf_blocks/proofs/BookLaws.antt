@@ -11,9 +11,9 @@ use Rattle.cf_circuits.specs.declared.gates.Gate.{Gate}
 use Rattle.cf_circuits.specs.declared.pins.Pin.{Pin}
 use Rattle.cf_circuits.specs.declared.pins.Call.{Call}
 use Rattle.cf_circuits.specs.declared.models.ModelDef.{ModelDef}
-use Rattle.cf_links.specs.Parts.{Part, AGate, ACall, line_of, put, merged, parts}
-use Rattle.cf_links.specs.Links.{gathered, is_among, drives, driven, repeated, twice_driven, actuals, is_output, callee}
-use Rattle.cf_blocks.specs.Numbering.{signals}
+use Rattle.cf_circuits.specs.Parts.{Part, AGate, ACall, line_of, put, merged, parts}
+use Rattle.cf_circuits.specs.Links.{gathered, is_among, drives, driven, repeated, twice_driven, actuals, is_output, callee}
+use Rattle.cf_circuits.specs.Expansions.{signals}
 
 -- how often a name stands among names
 abbrev count : List (List ℕ) → List ℕ → ℕ

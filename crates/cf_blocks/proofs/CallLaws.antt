@@ -14,10 +14,11 @@ use Rattle.cf_circuits.specs.Kept.{IsCall, IsModel}
 use Rattle.cf_hierarchy.specs.declared.blocks.Call.{Call}
 use Rattle.cf_hierarchy.specs.declared.blocks.Driver.{Driver}
 use Rattle.cf_hierarchy.specs.declared.blocks.Driver.TheVariants.{Formal}
-use Rattle.cf_links.specs.Links.{callee, is_among, is_output, names_of, no_model}
+use Rattle.cf_circuits.specs.Links.{callee, is_among, is_output, names_of, no_model}
 use Rattle.cf_links.specs.Directories.{IsPlace, model_at}
 use Rattle.cf_links.proofs.DirectoriesPlaces.{place-callee, place-or-end}
-use Rattle.cf_blocks.specs.Numbering.{actual_for, actual_of, backs_of, call_of, formals_from, number}
+use Rattle.cf_circuits.specs.Expansions.{actual_for}
+use Rattle.cf_blocks.specs.Numbering.{actual_of, backs_of, call_of, formals_from, number}
 
 -- the formals of pins
 abbrev formals-of : List Pin → List (List ℕ)

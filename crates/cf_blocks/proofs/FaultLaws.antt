@@ -2,9 +2,9 @@
 use Rattle.std.proofs.Common.{◌≡◌, List, [], ◌∷◌, Option, Some, None, refl}
 use Rattle.std.specs.Option.{option_map}
 use Rattle.cf_circuits.specs.declared.models.ModelDef.{ModelDef}
-use Rattle.cf_links.specs.declared.faults.NameFault.TheVariants.{NoModel, NoFormal, Unconnected, TwiceDriven, Undriven}
-use Rattle.cf_links.specs.Links.{first_of, missing_model, missing_formal, missing_pin, twice_driven, undriven, in_calls, in_models}
-use Rattle.cf_links.specs.Faults.{first_fault}
+use Rattle.cf_circuits.specs.declared.faults.LinkFault.TheVariants.{NoModel, NoFormal, Unconnected, TwiceDriven, Undriven}
+use Rattle.cf_circuits.specs.Links.{first_of, missing_model, missing_formal, missing_pin, twice_driven, undriven, in_calls, in_models}
+use Rattle.cf_circuits.specs.LinkFaults.{fault_of_names}
 use Rattle.cf_links.proofs.CallsRings.{all-none}
 use Rattle.cf_blocks.specs.Once.{DriveOnce}
 
@@ -17,7 +17,7 @@ image-none : {A B : Type 0} (f : A → B) (o : Option A) → option_map f o ≡ 
 image-none f None h = refl
 image-none f (Some x) h = cc
 
-pub drive-once : (models : List ModelDef) → first_fault models ≡ None → DriveOnce models
+pub drive-once : (models : List ModelDef) → fault_of_names models ≡ None → DriveOnce models
 drive-once models none =
     let fifth = option_map Undriven (in_models (undriven models) models) ∷ [] in
     let fourth = option_map TwiceDriven (in_models (twice_driven models) models) ∷ fifth in

@@ -7,7 +7,8 @@ use Rattle.cf_circuits.specs.declared.gates.Cover.{Cover}
 use Rattle.cf_circuits.specs.declared.pins.Pin.{Pin}
 use Rattle.cf_circuits.specs.declared.pins.Call as named
 use Rattle.cf_circuits.specs.declared.models.ModelDef.{ModelDef}
-use Rattle.cf_links.specs.Links.{gathered, names_of, callee, is_output, actuals}
+use Rattle.cf_circuits.specs.Links.{gathered, names_of, callee, is_output}
+use Rattle.cf_circuits.specs.Expansions.{actual_for, signals}
 use Rattle.cf_hierarchy.specs.declared.gates.Gate.{Gate}
 use Rattle.cf_hierarchy.specs.declared.blocks.Driver.{Driver}
 use Rattle.cf_hierarchy.specs.declared.blocks.Driver.TheVariants.{Formal, Made, Back}
@@ -16,20 +17,11 @@ use Rattle.cf_hierarchy.specs.declared.blocks.Block.{Block}
 
 -- The models of a netlist as blocks: names become numbers.
 
--- the signals of a model: its inputs, its gates' outputs, and the actuals of the calls' formals that are outputs
-abbrev pub signals : List ModelDef → ModelDef → List (List ℕ)
-signals models m =
-    m.inputs ++ (map (λ g. g.out) m.gates ++ gathered (λ c. actuals (is_output (callee models c)) c.pins) m.calls)
-
 -- the number of a signal of a model is its place
 abbrev pub number : List ModelDef → ModelDef → List ℕ → ℕ
 number models m name = place bytes_eq (signals models m) name
 
--- the actual of a formal
-abbrev pub actual_for : List Pin → List ℕ → Option (List ℕ)
-actual_for [] name = None
-actual_for (p ∷ later) name = if bytes_eq p.formal name then Some p.actual else actual_for later name
-
+-- the actual of a formal, where there is one
 abbrev pub actual_of : List Pin → List ℕ → List ℕ
 actual_of pins name = unwrap_or (actual_for pins name) []
 

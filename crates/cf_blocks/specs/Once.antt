@@ -1,6 +1,6 @@
 use Rattle.std.specs.Prelude.{◌≡◌, List, None, All}
 use Rattle.cf_circuits.specs.declared.models.ModelDef.{ModelDef}
-use Rattle.cf_links.specs.Links.{twice_driven}
+use Rattle.cf_circuits.specs.Links.{twice_driven}
 
 -- No model drives a signal twice.
 abbrev pub DriveOnce : List ModelDef → Type 0

@@ -3,8 +3,8 @@
 ghost use Rattle.std.specs.Prelude.{◌≡◌, None, map, IfOk, OnOk};
 ghost use Rattle.std.specs.Str.{bytes_eq};
 ghost use Rattle.cf_model.specs.Renumbering.{distinct_on, place};
-ghost use Rattle.cf_links.specs.Links.{actuals, callee as callee_of, gathered, is_output as output_of, twice_driven};
-ghost use Rattle.cf_blocks.specs.Numbering.{signals};
+ghost use Rattle.cf_circuits.specs.Links.{actuals, callee as callee_of, gathered, is_output as output_of, twice_driven};
+ghost use Rattle.cf_circuits.specs.Expansions.{signals};
 ghost use Rattle.cf_blocks.specs.Once.{DriveOnce};
 
 use crate::NoMemory;

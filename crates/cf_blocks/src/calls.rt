@@ -2,7 +2,7 @@
 
 ghost use Rattle.std.specs.Prelude.{◌≡◌, ◌<◌, All, length, map, slice_index_or, IfOk};
 ghost use Rattle.cf_circuits.specs.Kept.{IsCall};
-ghost use Rattle.cf_links.specs.Links.{no_model};
+ghost use Rattle.cf_circuits.specs.Links.{no_model};
 ghost use Rattle.cf_model.specs.Renumbering.{AllDiffer};
 ghost use Rattle.cf_blocks.specs.Numbering.{actual_of as actual_in, call_of as numbered, number as number_of};
 
@@ -69,11 +69,11 @@ fn actuals_of(
 {
     let pins = call.pins.items();
     let book = formals_of(alloc, pins)?;
-    let mut wires = Wires::new(alloc);
+    let mut wires = Vec::with_capacity(alloc, names.len())?;
     for name in names {
         wires.push(numbers.number(at, actual_of(&book, pins, name.bytes())))?;
     }
-    Ok(wires)
+    Ok(Wires::of(wires))
 }
 
 /// A book of formals that differ.

@@ -1,7 +1,7 @@
 //! What drives the signals of a model, in order of their numbers.
 
 ghost use Rattle.std.specs.Prelude.{◌≡◌, ◌<◌, ◌++◌, length, slice_index_or, IfOk, OnOk};
-ghost use Rattle.cf_links.specs.Links.{callee as callee_of, is_output as output_of, no_model};
+ghost use Rattle.cf_circuits.specs.Links.{callee as callee_of, is_output as output_of, no_model};
 ghost use Rattle.cf_blocks.specs.Numbering.{backs_from, backs_of, drivers_of as all_drivers, formals_from, gate_of as numbered, made_from, number as number_of};
 
 use crate::NoMemory;

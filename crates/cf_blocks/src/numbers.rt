@@ -1,7 +1,7 @@
 //! The models of a netlist with their signals numbered.
 
 ghost use Rattle.std.specs.Prelude.{◌≡◌, ◌<◌, false, length, map, slice_index_or, IfOk, IfSome, MatchOption};
-ghost use Rattle.cf_links.specs.Links.{is_among, no_model, callee as callee_of, is_output as output_of, names_of};
+ghost use Rattle.cf_circuits.specs.Links.{is_among, no_model, callee as callee_of, is_output as output_of, names_of};
 ghost use Rattle.cf_links.specs.Directories.{IsPlace, model_at};
 ghost use Rattle.cf_model.specs.Renumbering.{AllDiffer};
 ghost use Rattle.cf_blocks.specs.Numbering.{number as number_of};
@@ -27,7 +27,7 @@ pub(crate) struct Numbers<'a> {
 impl<'a> Model for Numbers<'a> {
     ghost use Rattle.std.specs.Prelude.{◌≡◌, List, map};
     ghost use Rattle.cf_circuits.specs.declared.models.ModelDef.{ModelDef};
-    ghost use Rattle.cf_blocks.specs.Numbering.{signals};
+    ghost use Rattle.cf_circuits.specs.Expansions.{signals};
 
     ghost Value = { List ModelDef };
 
@@ -96,10 +96,10 @@ impl<'a> Numbers<'a> {
         ensures { IfOk result (λ wires. wires
             ≡ map (number_of self.now (slice_index_or self.now model no_model)) names.now) }
     {
-        let mut wires = Wires::new(alloc);
+        let mut wires = Vec::with_capacity(alloc, names.len())?;
         for name in names {
             wires.push(self.number(model, name.bytes()))?;
         }
-        Ok(wires)
+        Ok(Wires::of(wires))
     }
 }

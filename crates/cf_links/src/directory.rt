@@ -2,7 +2,7 @@
 
 ghost use Rattle.std.specs.Prelude.{◌≡◌, ◌<◌, false, length, slice_index_or, IfOk, IfSome, MatchOption};
 ghost use Rattle.cf_model.specs.Renumbering.{AllDiffer};
-ghost use Rattle.cf_links.specs.Links.{is_among, names_of, no_model, callee as callee_of, is_input as input_of, is_output as output_of};
+ghost use Rattle.cf_circuits.specs.Links.{is_among, names_of, no_model, callee as callee_of, is_input as input_of, is_output as output_of};
 ghost use Rattle.cf_links.specs.Directories.{HaveSame, Lists, ListsEach, IsPlace, model_at};
 
 use crate::NoMemory;
@@ -30,7 +30,7 @@ pub struct Directory<'a> {
 impl<'a> Model for Directory<'a> {
     ghost use Rattle.std.specs.Prelude.{◌≡◌, List};
     ghost use Rattle.cf_circuits.specs.declared.models.ModelDef.{ModelDef};
-    ghost use Rattle.cf_links.specs.Links.{names_of};
+    ghost use Rattle.cf_circuits.specs.Links.{names_of};
     ghost use Rattle.cf_links.specs.Directories.{ListsEach};
 
     ghost Value = { List ModelDef };

@@ -2,7 +2,7 @@ use Rattle.std.proofs.Common.{List, get_or, sym, subst}
 use Rattle.std.specs.List.{All}
 use Rattle.cf_circuits.specs.declared.models.ModelDef.{ModelDef}
 use Rattle.cf_circuits.specs.Kept.{IsCall}
-use Rattle.cf_links.specs.Links.{no_model}
+use Rattle.cf_circuits.specs.Links.{no_model}
 use Rattle.cf_blocks.proofs.CallLaws.{calls-kept}
 use Rattle.cf_blocks.proofs.FaultLaws.{drive-once}
 use Rattle.cf_blocks.proofs.blocks_of.Goals as goal

@@ -1,7 +1,7 @@
 use Rattle.std.proofs.Common.{◌≡◌, drop, get_or}
 use Rattle.std.specs.Str.{bytes_eq}
 use Rattle.cf_model.specs.Renumbering.{distinct_on}
-use Rattle.cf_links.specs.Links.{actuals, is_output, no_model}
+use Rattle.cf_circuits.specs.Links.{actuals, is_output, no_model}
 use Rattle.cf_blocks.proofs.books.add_call.Given as goal
 
 abbrev pub invariant-loop-pin : goal.invariant-loop-pin

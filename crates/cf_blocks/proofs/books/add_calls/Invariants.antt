@@ -1,7 +1,7 @@
 use Rattle.std.proofs.Common.{◌≡◌, drop}
 use Rattle.std.specs.Str.{bytes_eq}
 use Rattle.cf_model.specs.Renumbering.{distinct_on}
-use Rattle.cf_links.specs.Links.{actuals, callee, gathered, is_output}
+use Rattle.cf_circuits.specs.Links.{actuals, callee, gathered, is_output}
 use Rattle.cf_blocks.proofs.books.add_calls.Given as goal
 
 abbrev pub invariant-loop-call : goal.invariant-loop-call

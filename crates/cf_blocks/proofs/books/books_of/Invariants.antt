@@ -1,5 +1,5 @@
 use Rattle.std.proofs.Common.{◌≡◌, map, take}
-use Rattle.cf_blocks.specs.Numbering.{signals}
+use Rattle.cf_circuits.specs.Expansions.{signals}
 use Rattle.cf_blocks.proofs.books.books_of.Given as goal
 
 abbrev pub invariant-loop-model : goal.invariant-loop-model

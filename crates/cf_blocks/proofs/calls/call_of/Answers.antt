@@ -1,6 +1,6 @@
 use Rattle.std.proofs.Common.{◌≡◌, false, get_or, length, ap, subst}
 use Rattle.std.specs.Prelude.{MatchOption}
-use Rattle.cf_links.specs.Links.{is_among, names_of, no_model}
+use Rattle.cf_circuits.specs.Links.{is_among, names_of, no_model}
 use Rattle.cf_links.specs.Directories.{IsPlace}
 use Rattle.cf_blocks.proofs.CallLaws.{not-found, uncalled}
 use Rattle.cf_blocks.proofs.calls.call_of.Goals as goal

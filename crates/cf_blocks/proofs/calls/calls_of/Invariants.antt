@@ -1,5 +1,5 @@
 use Rattle.std.proofs.Common.{◌≡◌, map, take, get_or}
-use Rattle.cf_links.specs.Links.{no_model}
+use Rattle.cf_circuits.specs.Links.{no_model}
 use Rattle.cf_blocks.specs.Numbering.{call_of}
 use Rattle.cf_blocks.proofs.calls.calls_of.Given as goal
 

@@ -1,5 +1,5 @@
 use Rattle.std.proofs.Common.{◌≡◌, ◌++◌, drop, get_or}
-use Rattle.cf_links.specs.Links.{is_output, no_model}
+use Rattle.cf_circuits.specs.Links.{is_output, no_model}
 use Rattle.cf_blocks.specs.Numbering.{backs_of, number}
 use Rattle.cf_blocks.proofs.drivers.add_call.Given as goal
 

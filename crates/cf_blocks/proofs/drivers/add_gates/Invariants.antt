@@ -1,5 +1,5 @@
 use Rattle.std.proofs.Common.{◌≡◌, ◌++◌, drop, get_or}
-use Rattle.cf_links.specs.Links.{no_model}
+use Rattle.cf_circuits.specs.Links.{no_model}
 use Rattle.cf_blocks.specs.Numbering.{made_from}
 use Rattle.cf_blocks.proofs.drivers.add_gates.Given as goal
 
