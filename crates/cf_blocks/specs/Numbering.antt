@@ -51,14 +51,16 @@ backs_of test number_of j (p ∷ later) =
 abbrev pub backs_from : List ModelDef → ℕ → List named.Call → List Driver
 backs_from models j [] = []
 backs_from models j (c ∷ later) =
-    backs_of (is_output (callee models c)) (number models (callee models c)) j c.pins ++ backs_from models (suc j) later
+    backs_of (is_output (callee models c)) (number models (callee models c)) j c.pins
+    ++ backs_from models (suc j) later
 
 -- what drives the signals of a model, in their order, its covers numbered from `cover` on
 abbrev pub drivers_of : List ModelDef → ℕ → ModelDef → List Driver
 drivers_of models cover m =
     formals_from 0 m.inputs ++ (made_from models m cover m.gates ++ backs_from models 0 m.calls)
 
--- A call of a model has the place of the called model, and for each input of that, in order, the number of its actual.
+-- A call of a model has the place of the called model, and for each input of that, in order, the number of its
+-- actual.
 abbrev pub call_of : List ModelDef → ModelDef → named.Call → Call
 call_of models m c = record {
   block = place bytes_eq (names_of models) c.model;
@@ -67,7 +69,8 @@ call_of models m c = record {
 
 -- a model as a block, its covers numbered from `cover` on
 abbrev pub block_of : List ModelDef → ℕ → ModelDef → Block
-block_of models cover m = record { drivers = drivers_of models cover m; calls = map (call_of models m) m.calls }
+block_of models cover m =
+    record { drivers = drivers_of models cover m; calls = map (call_of models m) m.calls }
 
 -- models as blocks, one after another, their covers numbered from `cover` on
 abbrev pub blocks_from : List ModelDef → ℕ → List ModelDef → List Block
