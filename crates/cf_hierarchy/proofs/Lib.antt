@@ -1,6 +1,5 @@
 pub mod Values
 pub mod Wiring
-pub mod ChainLaws
 pub mod Sizing
 pub mod Growth
 pub mod NodeLaws

@@ -5,7 +5,7 @@ use Rattle.std.proofs.lemmas.Bool.{cases_lt}
 use Rattle.std.proofs.lemmas.List.{get_or-map, get_or_past, reverse-append, reverse-reverse, length-reverse, length-map}
 use Rattle.std.proofs.lemmas.Option.{slice_get_within, slice_get_past, get_or_from_slice_get, slice_get-get_or, slice_get-map}
 use Rattle.cf_order.specs.Orders.{row}
-use Rattle.cf_hierarchy.specs.Chains.{end_of, IsChain, IsLongest, total}
+use Rattle.cf_order.specs.Chains.{end_of, IsChain, IsLongest, total}
 use Rattle.cf_hierarchy.specs.declared.blocks.Call.{Call}
 use Rattle.cf_hierarchy.specs.declared.blocks.Block.{Block}
 use Rattle.cf_hierarchy.specs.Hierarchy.{block_at, IsBlock}

@@ -5,8 +5,8 @@ use Rattle.std.proofs.lemmas.Bool.{cases_eq}
 use Rattle.std.proofs.lemmas.List.{get_or_default, get_or_read, get_or-take, get_or-set_same, get_or-set_other}
 use Rattle.std.proofs.lemmas.Option.{slice_get-get_or, slice_get_within, get_or_from_slice_get}
 use Rattle.cf_order.specs.Orders.{row, Needs, IsOrder}
-use Rattle.cf_hierarchy.specs.Chains.{IsLongest, tallest, total}
-use Rattle.cf_hierarchy.proofs.ChainLaws.{size, total_is, longest_of, size_of}
+use Rattle.cf_order.specs.Chains.{IsLongest, tallest, total}
+use Rattle.cf_order.proofs.ChainLaws.{size, total_is, longest_of, size_of}
 
 -- the first models of the order have their heights and counts
 pub record Sized (calls : List (List ℕ)) (weights order : List ℕ) (limit : ℕ)

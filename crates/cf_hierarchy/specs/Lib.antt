@@ -1,5 +1,4 @@
 pub mod Circuits
-pub mod Chains
 pub mod Hierarchy
 pub mod Spreads
 pub mod Flattening

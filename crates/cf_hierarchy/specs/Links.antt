@@ -3,7 +3,7 @@ use Rattle.cf_hierarchy.specs.declared.blocks.Call.{Call}
 use Rattle.cf_hierarchy.specs.declared.blocks.Block.{Block}
 use Rattle.cf_hierarchy.specs.Hierarchy.{block_at}
 use Rattle.cf_hierarchy.specs.Spreads.{IsAtMostDeep}
-use Rattle.cf_hierarchy.specs.Chains.{total}
+use Rattle.cf_order.specs.Chains.{total}
 use Rattle.cf_hierarchy.specs.Flattening.{HasCycle}
 use Rattle.cf_hierarchy.specs.declared.linking.LinkFault.{LinkFault}
 use Rattle.cf_hierarchy.specs.declared.linking.LinkFault.TheVariants as fault

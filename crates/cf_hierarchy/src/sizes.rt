@@ -4,7 +4,7 @@
 ghost use Rattle.std.specs.Prelude.{◌≡◌, ℕ, ◌+◌, ◌<◌, ◌≤◌, ◌^◌, List, min, All, map, length, slice_index, IfOk};
 ghost use Rattle.std.specs.List.{sum_by};
 ghost use Rattle.cf_order.specs.Orders.{IsOrder, row};
-ghost use Rattle.cf_hierarchy.specs.Chains.{tallest, AreHeights, AreCounts, ListsChains};
+ghost use Rattle.cf_order.specs.Chains.{tallest, AreHeights, AreCounts, ListsChains};
 
 use crate::NoMemory;
 use cf_order::Wires;

@@ -13,7 +13,7 @@ use Rattle.cf_order.specs.Orders.{Needs, Chain, IsRing}
 use Rattle.cf_order.specs.Rings.{HasNoneOnRing, IsFirstOnRing}
 use Rattle.cf_circuits.specs.declared.pins.Call.{Call}
 use Rattle.cf_circuits.specs.declared.models.ModelDef.{ModelDef}
-use Rattle.cf_links.specs.Links.{first_of, is_among, names_of, missing_model, in_calls, in_models, calls_of}
+use Rattle.cf_circuits.specs.Links.{first_of, is_among, names_of, missing_model, in_calls, in_models, calls_of}
 use Rattle.cf_links.specs.Directories.{places_of}
 
 -- where a list has no answer, none of its items has one

@@ -3,7 +3,7 @@ use Rattle.std.proofs.Common.{ℕ, ◌≡◌, ◌+◌, ◌<◌, List, [], ◌∷
 use Rattle.std.specs.Str.{bytes_eq}
 use Rattle.std.proofs.lemmas.List.{get_or-map, length-map, map-append, take_more}
 use Rattle.cf_model.specs.Renumbering.{note}
-use Rattle.cf_links.specs.Links.{first_of}
+use Rattle.cf_circuits.specs.Links.{first_of}
 use Rattle.cf_links.specs.Directories.{HaveSame}
 use Rattle.cf_links.proofs.DirectoriesNames.{same-next}
 

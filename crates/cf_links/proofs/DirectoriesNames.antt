@@ -11,7 +11,7 @@ use Rattle.cf_model.specs.Renumbering.{AllDiffer, note}
 use Rattle.cf_model.proofs.CanonLaws.{get_left, get_last, at_end}
 use Rattle.cf_circuits.specs.declared.models.ModelDef.{ModelDef}
 use Rattle.cf_links.specs.declared.directory.Listed.{Listed}
-use Rattle.cf_links.specs.Links.{is_among, names_of}
+use Rattle.cf_circuits.specs.Links.{is_among, names_of}
 use Rattle.cf_links.specs.Directories.{HaveSame, Lists}
 
 -- a name behind others

@@ -7,7 +7,7 @@ use Rattle.std.proofs.lemmas.List.{get_or_past, length-map}
 use Rattle.cf_model.specs.Renumbering.{place}
 use Rattle.cf_circuits.specs.declared.pins.Call.{Call}
 use Rattle.cf_circuits.specs.declared.models.ModelDef.{ModelDef}
-use Rattle.cf_links.specs.Links.{is_among, names_of, no_model, callee}
+use Rattle.cf_circuits.specs.Links.{is_among, names_of, no_model, callee}
 use Rattle.cf_links.specs.Directories.{IsPlace, model_at}
 
 -- a name that isn't among names has their number as its place

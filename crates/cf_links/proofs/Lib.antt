@@ -2,6 +2,5 @@ pub mod CallsRings
 pub mod CallsSearch
 pub mod DirectoriesNames
 pub mod DirectoriesPlaces
-pub mod LinkExamples
 pub mod PartLaws
 pub mod SignalLaws

@@ -4,7 +4,7 @@ use Rattle.std.specs.Prelude.{nat_lt}
 use Rattle.std.proofs.lemmas.Bool.{lt-ltb, le-ltb}
 use Rattle.cf_circuits.specs.declared.gates.Gate.{Gate}
 use Rattle.cf_circuits.specs.declared.pins.Call.{Call}
-use Rattle.cf_links.specs.Parts.{Part, AGate, ACall, line_of, put, merged}
+use Rattle.cf_circuits.specs.Parts.{Part, AGate, ACall, line_of, put, merged}
 use Rattle.cf_links.specs.Signals.{InOrder}
 
 behind-gate : (g : Gate) (gates : List Gate) (calls : List Call) → InOrder (g ∷ gates) calls → InOrder gates calls

@@ -9,8 +9,8 @@ use Rattle.cf_circuits.specs.declared.pins.Call.{Call}
 use Rattle.cf_circuits.specs.declared.models.ModelDef.{ModelDef}
 use Rattle.cf_links.specs.declared.signals.Driven.{Driven}
 use Rattle.cf_links.specs.Directories.{first_lacking, model_at}
-use Rattle.cf_links.specs.Parts.{Part, ACall, parts}
-use Rattle.cf_links.specs.Links.{first_of, gathered, is_among, is_input, is_output, no_model, callee, actuals, drives, uses, driven, used, repeated, undriven}
+use Rattle.cf_circuits.specs.Parts.{Part, ACall, parts}
+use Rattle.cf_circuits.specs.Links.{first_of, gathered, is_among, is_input, is_output, no_model, callee, actuals, drives, uses, driven, used, repeated, undriven}
 use Rattle.cf_links.specs.Signals.{nothing, drive, drive_all}
 use Rattle.cf_links.proofs.DirectoriesNames.{among-note}
 

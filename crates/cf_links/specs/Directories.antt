@@ -4,7 +4,7 @@ use Rattle.std.specs.Str.{bytes_eq}
 use Rattle.cf_model.specs.Renumbering.{place}
 use Rattle.cf_circuits.specs.declared.models.ModelDef.{ModelDef}
 use Rattle.cf_links.specs.declared.directory.Listed.{Listed}
-use Rattle.cf_links.specs.Links.{is_among, names_of, no_model, first_of}
+use Rattle.cf_circuits.specs.Links.{is_among, names_of, no_model, first_of}
 
 -- Two lists have the same names, in whatever order and however often.
 abbrev pub HaveSame : List (List ℕ) → List (List ℕ) → Type 0

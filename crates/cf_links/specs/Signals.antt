@@ -7,8 +7,8 @@ use Rattle.cf_circuits.specs.declared.pins.Call.{Call}
 use Rattle.cf_links.specs.declared.parts.Part as handed
 use Rattle.cf_links.specs.declared.parts.Part.TheVariants as is
 use Rattle.cf_links.specs.declared.signals.Driven.{Driven}
-use Rattle.cf_links.specs.Parts.{Part, AGate, ACall}
-use Rattle.cf_links.specs.Links.{first_of, is_among}
+use Rattle.cf_circuits.specs.Parts.{Part, AGate, ACall}
+use Rattle.cf_circuits.specs.Links.{first_of, is_among}
 
 -- the gate or call that is handed out
 abbrev pub part_of : handed.Part → Part

@@ -2,7 +2,7 @@
 //! the name of the first place, the calls in order.
 
 ghost use Rattle.std.specs.Prelude.{◌≡◌, ◌<◌, length, IfOk, IfSome};
-ghost use Rattle.cf_links.specs.Links.{is_formal as formal_of, formals, missing_model as no_model_in, missing_formal as no_formal_in, missing_pin as unconnected_in, in_calls};
+ghost use Rattle.cf_circuits.specs.Links.{is_formal as formal_of, formals, missing_model as no_model_in, missing_formal as no_formal_in, missing_pin as unconnected_in, in_calls};
 ghost use Rattle.cf_links.specs.Directories.{HaveSame, model_at, first_lacking as first_not_in};
 
 use crate::NoMemory;

@@ -2,7 +2,7 @@
 
 ghost use Rattle.std.specs.Prelude.{◌≡◌, ◌<◌, false, length, slice_index_or, IfOk, IfSome, MatchOption};
 ghost use Rattle.cf_model.specs.Renumbering.{AllDiffer};
-ghost use Rattle.cf_links.specs.Links.{is_among, names_of, no_model, callee as callee_of, is_input as input_of, is_output as output_of};
+ghost use Rattle.cf_circuits.specs.Links.{is_among, names_of, no_model, callee as callee_of, is_input as input_of, is_output as output_of};
 ghost use Rattle.cf_links.specs.Directories.{HaveSame, Lists, ListsEach, IsPlace, model_at};
 
 use crate::NoMemory;
@@ -14,14 +14,14 @@ use std::marker::Model;
 
 /// The formals of a model.
 #[derive(Drop)]
-pub(crate) struct Listed {
+pub struct Listed {
     pub inputs: NameBook,
     pub outputs: NameBook,
 }
 
 /// The models of a netlist, found by their names, with their inputs and outputs.
 #[derive(Drop)]
-pub(crate) struct Directory<'a> {
+pub struct Directory<'a> {
     models: &'a [ModelDef],
     names: NameBook,
     formals: Vec<Listed>,
@@ -30,7 +30,7 @@ pub(crate) struct Directory<'a> {
 impl<'a> Model for Directory<'a> {
     ghost use Rattle.std.specs.Prelude.{◌≡◌, List};
     ghost use Rattle.cf_circuits.specs.declared.models.ModelDef.{ModelDef};
-    ghost use Rattle.cf_links.specs.Links.{names_of};
+    ghost use Rattle.cf_circuits.specs.Links.{names_of};
     ghost use Rattle.cf_links.specs.Directories.{ListsEach};
 
     ghost Value = { List ModelDef };

@@ -2,7 +2,7 @@
 
 ghost use Rattle.std.specs.Prelude.{◌≡◌, All, IfOk};
 ghost use Rattle.cf_circuits.specs.Kept.{IsModel};
-ghost use Rattle.cf_links.specs.Links.{in_models as first_in};
+ghost use Rattle.cf_circuits.specs.Links.{in_models as first_in};
 ghost use Rattle.cf_links.specs.Kinds.{of_kind};
 
 use crate::NoMemory;

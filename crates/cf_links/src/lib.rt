@@ -4,11 +4,11 @@
 
 ghost use Rattle.std.specs.Prelude.{◌≡◌, All, IfOk, MatchOption};
 ghost use Rattle.cf_circuits.specs.Kept.{IsModel, IsNetlist};
-ghost use Rattle.cf_links.specs.Faults.{HasNoNameFault, IsNameFault, first_fault as first_fault_of};
+ghost use Rattle.cf_circuits.specs.LinkFaults.{fault_of_names};
+ghost use Rattle.cf_links.specs.Faults.{HasNoNameFault, IsNameFault};
 
 mod calls;
-mod directory;
-pub mod faults;
+pub mod directory;
 mod kinds;
 mod parts;
 mod recursion;
@@ -17,15 +17,15 @@ mod signals;
 use crate::directory::Directory;
 use crate::kinds::{Kind, in_models};
 use crate::recursion::recursive_model;
+use cf_circuits::faults::LinkFault;
 use cf_circuits::models::Netlist;
-pub use faults::NameFault;
 use std::alloc::Global;
 
 /// There was no memory.
 pub type NoMemory = std::alloc::AllocError;
 
-/// What the names of a netlist lack first, in order of the kinds.
-pub fn name_fault(alloc: Global, net: &Netlist) -> Result<Option<NameFault>, NoMemory>
+/// What the names of a netlist lack first, in order of the kinds 1 to 6.
+pub fn name_fault(alloc: Global, net: &Netlist) -> Result<Option<LinkFault>, NoMemory>
     requires { IsNetlist net.now.models }
     ensures { IfOk result (λ fault.
         MatchOption fault (HasNoNameFault net.now.models) (IsNameFault net.now.models)) }
@@ -35,30 +35,30 @@ pub fn name_fault(alloc: Global, net: &Netlist) -> Result<Option<NameFault>, NoM
         return Ok(Some(fault));
     }
     match recursive_model(alloc, &directory)? {
-        Some(name) => Ok(Some(NameFault::Recursive(name))),
+        Some(name) => Ok(Some(LinkFault::Recursive(name))),
         None => Ok(None),
     }
 }
 
 /// The first fault that a model has in itself: all models are tried for a kind before the next.
-fn first_fault(alloc: Global, directory: &Directory) -> Result<Option<NameFault>, NoMemory>
+fn first_fault(alloc: Global, directory: &Directory) -> Result<Option<LinkFault>, NoMemory>
     requires { All IsModel directory.now }
-    ensures { IfOk result (λ fault. fault ≡ first_fault_of directory.now) }
+    ensures { IfOk result (λ fault. fault ≡ fault_of_names directory.now) }
 {
     if let Some(name) = in_models(alloc, directory, Kind::NoModel)? {
-        return Ok(Some(NameFault::NoModel(name)));
+        return Ok(Some(LinkFault::NoModel(name)));
     }
     if let Some(name) = in_models(alloc, directory, Kind::NoFormal)? {
-        return Ok(Some(NameFault::NoFormal(name)));
+        return Ok(Some(LinkFault::NoFormal(name)));
     }
     if let Some(name) = in_models(alloc, directory, Kind::Unconnected)? {
-        return Ok(Some(NameFault::Unconnected(name)));
+        return Ok(Some(LinkFault::Unconnected(name)));
     }
     if let Some(name) = in_models(alloc, directory, Kind::TwiceDriven)? {
-        return Ok(Some(NameFault::TwiceDriven(name)));
+        return Ok(Some(LinkFault::TwiceDriven(name)));
     }
     if let Some(name) = in_models(alloc, directory, Kind::Undriven)? {
-        return Ok(Some(NameFault::Undriven(name)));
+        return Ok(Some(LinkFault::Undriven(name)));
     }
     Ok(None)
 }

@@ -2,7 +2,7 @@
 
 ghost use Rattle.std.specs.Prelude.{◌≡◌, [], ◌∷◌, IfSome, IfNone};
 ghost use Rattle.cf_circuits.specs.Kept.{IsModel};
-ghost use Rattle.cf_links.specs.Parts.{parts};
+ghost use Rattle.cf_circuits.specs.Parts.{parts};
 ghost use Rattle.cf_links.specs.Signals.{part_of};
 
 use cf_circuits::gates::Gate;
@@ -27,7 +27,7 @@ pub(crate) struct Parts<'a> {
 
 impl<'a> Model for Parts<'a> {
     ghost use Rattle.std.specs.Prelude.{List};
-    ghost use Rattle.cf_links.specs.Parts.{Part, merged};
+    ghost use Rattle.cf_circuits.specs.Parts.{Part, merged};
     ghost use Rattle.cf_links.specs.Signals.{InOrder};
 
     ghost Value = { List Part };

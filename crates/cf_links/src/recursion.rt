@@ -2,7 +2,7 @@
 
 ghost use Rattle.std.specs.Prelude.{◌≡◌, ◌<◌, Some, None, length, slice_get, IfOk, MatchOption};
 ghost use Rattle.cf_order.specs.Orders.{HasNoRing};
-ghost use Rattle.cf_links.specs.Links.{calls_of, in_calls, in_models, missing_model, names_of};
+ghost use Rattle.cf_circuits.specs.Links.{calls_of, in_calls, in_models, missing_model, names_of};
 ghost use Rattle.cf_links.specs.Directories.{places_of};
 ghost use Rattle.cf_links.specs.Faults.{IsRecursive};
 

@@ -2,9 +2,9 @@
 
 ghost use Rattle.std.specs.Prelude.{◌≡◌, IfOk, OnOk};
 ghost use Rattle.cf_circuits.specs.Kept.{IsModel};
-ghost use Rattle.cf_links.specs.Parts.{ACall};
-ghost use Rattle.cf_links.specs.Links.{drives, uses, driven as all_driven};
-ghost use Rattle.cf_links.specs.Links.{twice_driven as repeated, undriven as first_undriven};
+ghost use Rattle.cf_circuits.specs.Parts.{ACall};
+ghost use Rattle.cf_circuits.specs.Links.{drives, uses, driven as all_driven};
+ghost use Rattle.cf_circuits.specs.Links.{twice_driven as repeated, undriven as first_undriven};
 ghost use Rattle.cf_links.specs.Directories.{first_lacking as first_not_in};
 ghost use Rattle.cf_links.specs.Signals.{part_of, nothing, drive, drive_all};
 

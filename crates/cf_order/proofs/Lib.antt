@@ -3,3 +3,4 @@ pub mod Work
 pub mod Turns
 pub mod RingLaws
 pub mod Reaching
+pub mod ChainLaws

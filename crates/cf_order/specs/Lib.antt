@@ -2,3 +2,4 @@ pub mod Orders
 pub mod Rings
 pub mod Walks
 pub mod Sound
+pub mod Chains

@@ -3,7 +3,8 @@
 ghost use Rattle.std.specs.Prelude.{◌≡◌, [], ◌∷◌, IfOk};
 
 use cf_blif::read_blif;
-use cf_links::{NameFault, name_fault};
+use cf_circuits::faults::LinkFault;
+use cf_links::name_fault;
 use cf_order::{OrderFault, Wires, order_of};
 use std::alloc::Global;
 use std::process::Abort;
@@ -15,7 +16,7 @@ const TWICE: &[u8] =
     .model not\n.inputs x\n.outputs y\n.names x y\n0 1\n.end\n";
 
 /// The first fault of a file's names.
-fn fault_of(rt: &impl Abort, alloc: Global, text: &[u8]) -> Result<Option<NameFault>, Fail> {
+fn fault_of(rt: &impl Abort, alloc: Global, text: &[u8]) -> Result<Option<LinkFault>, Fail> {
     let Ok(netlist) = read_blif(alloc, text) else {
         panic!(rt; "the file is faulty");
     };
@@ -30,32 +31,27 @@ fn names_that_lack_nothing_have_no_fault(rt: HostRuntime) -> Result<(), Fail> {
 
 #[test]
 fn each_fault_tells_its_name(rt: HostRuntime) -> Result<(), Fail> {
-    let texts: [(&[u8], &str); 6] = [
-        (b".model m\n.subckt gone\n", "no model gone"),
-        (b".model m\n.subckt n x=a\n.end\n.model n\n", "no formal x"),
+    let texts: [(&[u8], u8, &str); 6] = [
+        (b".model m\n.subckt gone\n", 1, "gone"),
+        (b".model m\n.subckt n x=a\n.end\n.model n\n", 2, "x"),
         (
             b".model m\n.subckt n\n.end\n.model n\n.inputs i\n",
-            "unconnected i",
+            3,
+            "i",
         ),
-        (b".model m\n.inputs a a\n", "twice driven a"),
-        (b".model m\n.outputs y\n", "undriven y"),
-        (b".model m\n.subckt m\n", "recursive m"),
+        (b".model m\n.inputs a a\n", 4, "a"),
+        (b".model m\n.outputs y\n", 5, "y"),
+        (b".model m\n.subckt m\n", 6, "m"),
     ];
-    for (text, wanted) in texts {
+    for (text, number, name) in texts {
         let Some(fault) = fault_of(&rt, rt.alloc(), text)? else {
             panic!(rt; "no fault");
         };
-        let (kind, name) = match &fault {
-            NameFault::NoModel(name) => ("no model ", name),
-            NameFault::NoFormal(name) => ("no formal ", name),
-            NameFault::Unconnected(name) => ("unconnected ", name),
-            NameFault::TwiceDriven(name) => ("twice driven ", name),
-            NameFault::Undriven(name) => ("undriven ", name),
-            NameFault::Recursive(name) => ("recursive ", name),
+        let Some(told) = fault.name() else {
+            panic!(rt; "no name");
         };
-        let mut told = kind.as_bytes().to_vec(rt.alloc())?;
-        told.extend_from_slice(name.bytes())?;
-        assert_eq!(rt; told.as_slice(), wanted.as_bytes());
+        assert_eq!(rt; fault.number(), number);
+        assert_eq!(rt; told, name.as_bytes());
     }
     Ok(())
 }

@@ -1,5 +1,5 @@
 use Rattle.std.proofs.Common.{◌≡◌, ◌<◌, ◌≤◌, ◌^◌, max, drop}
-use Rattle.cf_hierarchy.specs.Chains.{tallest}
+use Rattle.cf_order.specs.Chains.{tallest}
 use Rattle.cf_hierarchy.proofs.sizes.height_of.Given as goal
 
 abbrev pub invariant-loop-model : goal.invariant-loop-model

@@ -1,5 +1,5 @@
 use Rattle.std.proofs.Common.{cond, Some, None}
-use Rattle.cf_links.specs.Links.{is_formal}
+use Rattle.cf_circuits.specs.Links.{is_formal}
 use Rattle.cf_links.specs.Directories.{model_at}
 use Rattle.cf_links.proofs.CallsSearch.{Sought}
 use Rattle.cf_links.proofs.calls.formal_missing_in.Given as goal

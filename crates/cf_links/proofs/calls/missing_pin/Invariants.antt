@@ -1,4 +1,4 @@
-use Rattle.cf_links.specs.Links.{missing_pin}
+use Rattle.cf_circuits.specs.Links.{missing_pin}
 use Rattle.cf_links.proofs.CallsSearch.{Sought}
 use Rattle.cf_links.proofs.calls.missing_pin.Given as goal
 

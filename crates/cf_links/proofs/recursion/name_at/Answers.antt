@@ -1,7 +1,7 @@
 use Rattle.std.proofs.Common.{◌≡◌, ◌∙◌, Some}
 use Rattle.std.specs.List.{slice_get}
 use Rattle.std.proofs.lemmas.Result.{IfOk-weaker}
-use Rattle.cf_links.specs.Links.{names_of}
+use Rattle.cf_circuits.specs.Links.{names_of}
 use Rattle.cf_links.proofs.CallsRings.{named-at}
 use Rattle.cf_links.proofs.recursion.name_at.Goals as goal
 

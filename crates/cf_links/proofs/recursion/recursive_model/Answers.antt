@@ -3,7 +3,7 @@ use Rattle.std.specs.List.{All, slice_get}
 use Rattle.std.proofs.lemmas.List.{length-map}
 use Rattle.cf_order.specs.Orders.{IsRing}
 use Rattle.cf_order.specs.Rings.{IsFirstOnRing, HasNoneOnRing}
-use Rattle.cf_links.specs.Links.{calls_of, names_of}
+use Rattle.cf_circuits.specs.Links.{calls_of, names_of}
 use Rattle.cf_links.specs.Directories.{places_of}
 use Rattle.cf_links.proofs.CallsRings.{calls-within, ring-lies, first-within}
 use Rattle.cf_links.proofs.recursion.recursive_model.Goals as goal

@@ -2,7 +2,7 @@ use Rattle.std.proofs.Common.{◌≡◌, ap, ◌∙◌, subst, length, false}
 use Rattle.std.specs.Prelude.{MatchOption}
 use Rattle.std.specs.Str.{bytes_eq}
 use Rattle.cf_model.specs.Renumbering.{place}
-use Rattle.cf_links.specs.Links.{is_among, names_of}
+use Rattle.cf_circuits.specs.Links.{is_among, names_of}
 use Rattle.cf_links.specs.Directories.{IsPlace}
 use Rattle.cf_links.proofs.CallsSearch.{images-next}
 use Rattle.cf_links.proofs.DirectoriesPlaces.{place-or-end}

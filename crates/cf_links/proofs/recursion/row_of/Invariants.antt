@@ -1,7 +1,7 @@
 use Rattle.std.proofs.Common.{◌≡◌, take, map}
 use Rattle.std.specs.Str.{bytes_eq}
 use Rattle.cf_model.specs.Renumbering.{place}
-use Rattle.cf_links.specs.Links.{names_of}
+use Rattle.cf_circuits.specs.Links.{names_of}
 use Rattle.cf_links.proofs.recursion.row_of.Given as goal
 
 abbrev pub invariant-loop-call : goal.invariant-loop-call

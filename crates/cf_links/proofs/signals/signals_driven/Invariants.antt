@@ -1,5 +1,5 @@
 use Rattle.std.proofs.Common.{◌≡◌, length}
-use Rattle.cf_links.specs.Links.{drives, driven, gathered}
+use Rattle.cf_circuits.specs.Links.{drives, driven, gathered}
 use Rattle.cf_links.specs.Signals.{nothing, drive_all}
 use Rattle.cf_links.proofs.signals.signals_driven.Given as goal
 

@@ -1,5 +1,5 @@
 use Rattle.std.proofs.Common.{ap, ◌∙◌}
-use Rattle.cf_links.specs.Links.{driven}
+use Rattle.cf_circuits.specs.Links.{driven}
 use Rattle.cf_links.proofs.SignalLaws.{again-repeated}
 use Rattle.cf_links.proofs.signals.twice_driven.Goals as goal
 

@@ -1,5 +1,5 @@
 use Rattle.std.proofs.Common.{◌≡◌, ◌++◌, length}
-use Rattle.cf_links.specs.Links.{uses, undriven, gathered}
+use Rattle.cf_circuits.specs.Links.{uses, undriven, gathered}
 use Rattle.cf_links.specs.Directories.{first_lacking}
 use Rattle.cf_links.proofs.signals.undriven.Given as goal
 

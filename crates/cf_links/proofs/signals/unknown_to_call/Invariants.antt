@@ -1,5 +1,5 @@
 use Rattle.std.proofs.Common.{◌≡◌, drop, get_or}
-use Rattle.cf_links.specs.Links.{actuals, is_input, no_model}
+use Rattle.cf_circuits.specs.Links.{actuals, is_input, no_model}
 use Rattle.cf_links.specs.Directories.{first_lacking}
 use Rattle.cf_links.proofs.signals.unknown_to_call.Given as goal
 

@@ -1,6 +1,6 @@
 use Rattle.std.proofs.Common.{◌≡◌, subst}
 use Rattle.std.specs.Prelude.{MatchOption, false}
-use Rattle.cf_links.specs.Links.{is_among, names_of}
+use Rattle.cf_circuits.specs.Links.{is_among, names_of}
 use Rattle.cf_links.specs.Directories.{IsPlace}
 use Rattle.cf_links.proofs.DirectoriesPlaces.{place-callee}
 use Rattle.cf_links.proofs.directory.Directory.callee.Goals as goal

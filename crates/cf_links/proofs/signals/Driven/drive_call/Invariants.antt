@@ -1,5 +1,5 @@
 use Rattle.std.proofs.Common.{◌≡◌, drop, get_or}
-use Rattle.cf_links.specs.Links.{actuals, is_output, no_model}
+use Rattle.cf_circuits.specs.Links.{actuals, is_output, no_model}
 use Rattle.cf_links.specs.Signals.{drive_all}
 use Rattle.cf_links.proofs.signals.Driven.drive_call.Given as goal
 

@@ -8,7 +8,7 @@ use Rattle.std.proofs.lemmas.List.{length-map, get_or-map}
 use Rattle.std.proofs.lemmas.List.Elements.{Contains-append_left, Contains-append_right, Contains-append_cases}
 use Rattle.std.proofs.lemmas.Option.{slice_get_within, get_or_from_slice_get}
 use Rattle.cf_order.specs.Orders.{row}
-use Rattle.cf_hierarchy.specs.Chains.{end_of, IsChain, IsLongest, branches, chains, ListsChains, weight_at, total, tallest}
+use Rattle.cf_order.specs.Chains.{end_of, IsChain, IsLongest, branches, chains, ListsChains, weight_at, total, tallest}
 
 -- the same by recursion on the number of calls
 pub size : List (List ℕ) → List ℕ → ℕ → ℕ → ℕ

@@ -5,7 +5,7 @@ use Rattle.cf_model.specs.Renumbering.{place}
 use Rattle.cf_circuits.specs.declared.pins.Pin.{Pin}
 use Rattle.cf_circuits.specs.declared.pins.Call.{Call}
 use Rattle.cf_circuits.specs.declared.models.ModelDef.{ModelDef}
-use Rattle.cf_links.specs.Parts.{Part, AGate, ACall, parts}
+use Rattle.cf_circuits.specs.Parts.{Part, AGate, ACall, parts}
 
 -- What links between models can lack: the models of calls, formals, pins, and the drivers of signals. Each kind of fault
 -- has its places in an order; the first place gives the name.
