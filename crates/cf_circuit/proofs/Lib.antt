@@ -1,0 +1,4 @@
+pub mod TruthLaws
+pub mod PlaneLaws
+pub mod WireLaws
+pub mod NeedLaws
