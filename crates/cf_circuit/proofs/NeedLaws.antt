@@ -1,6 +1,7 @@
 -- The wires that outputs need, marked from the last gate to the first.
-use Rattle.std.proofs.Common.{ℕ, zero, suc, ◌≡◌, ◌+◌, ◌<◌, ◌≤◌, Bool, true, false, List, [], ◌∷◌, length, get_or, set, refl, sym, ap, subst, ◌∙◌, arith, inl, inr, length-set}
+use Rattle.std.proofs.Common.{ℕ, zero, suc, ◌≡◌, ◌+◌, ◌<◌, ◌≤◌, Bool, true, false, List, [], ◌∷◌, length, get_or, set, take, drop, ◌++◌, refl, sym, ap, subst, ◌∙◌, arith, inl, inr, length-set}
 use Rattle.std.specs.List.{All}
+use Rattle.std.proofs.Math.Seq.{take-append_seam}
 use Rattle.std.proofs.lemmas.Bool.{cases_eq}
 use Rattle.std.proofs.lemmas.List.{get_or-set_same, get_or-set_other}
 use Rattle.std.proofs.lemmas.List.Elements.{All-head, All-tail, All-cons}
@@ -31,7 +32,7 @@ marked_kept needed (i ∷ wires) there w h =
 
 -- all of the list are
 pub marked_all : (needed : List Bool) (wires : List ℕ) → All (λ w. w < length needed) wires → All (λ w. is_needed (marked needed wires) w ≡ true) wires
-marked_all needed [] there k d l = absurd (omega (arith, l))
+marked_all needed [] there = λ k d l. absurd (omega (arith, l))
 marked_all needed (i ∷ wires) there =
     let low = All-head (λ v. v < length needed) i wires there in
     let rest : All (λ v. v < length (set needed i true)) wires = λ k d l. omega (arith, All-tail (λ v. v < length needed) i wires there k d l, length-set needed i true) in
@@ -79,12 +80,12 @@ needing_none flat needed k m all past h = record {
 
 -- a gate that isn't needed
 pub needing_past : (flat : Flat) (needed : List Bool) (k place : ℕ) → place + 1 ≡ k → is_needed needed (length flat.inputs + place) ≡ false → Needing flat needed k → Needing flat needed place
-needing_past flat needed k place e no h = record {
+needing_past flat needed k place e off h = record {
   full = h.full;
   outputs = h.outputs;
   closed = λ i high low.
       elim (cases_eq i place) [
-        | inl q ↦ (λ yes. absurd (false-true (sym no ∙ ap (λ j. is_needed needed (length flat.inputs + j)) (sym q) ∙ yes)))
+        | inl q ↦ (λ yes. absurd (false-true (sym off ∙ ap (λ j. is_needed needed (length flat.inputs + j)) (sym q) ∙ yes)))
         | inr ne ↦ h.closed i (omega (arith, high, ne, e)) low
       ];
 }
@@ -116,3 +117,7 @@ needing_more flat is needed k place e low wires ins h =
 
 pub all_needed : (flat : Flat) (needed : List Bool) (k : ℕ) → k ≡ 0 → Needing flat needed k → AreNeeded flat needed
 all_needed flat needed k e h = record { full = h.full; outputs = h.outputs; closed = λ i low. h.closed i (omega (arith, e)) low }
+
+-- marks that were written through a slice of all
+pub written : (old new : List Bool) (n : ℕ) → n ≡ length new → length new ≡ length old → take n (new ++ drop (length new) old) ≡ new
+written old new n long same = ap (λ m. take m (new ++ drop (length new) old)) long ∙ take-append_seam new (drop (length new) old)

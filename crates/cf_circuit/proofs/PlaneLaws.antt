@@ -4,18 +4,12 @@ use Rattle.std.specs.Prelude.{if◌then◌else◌}
 use Rattle.std.specs.List.{All}
 use Rattle.std.proofs.Math.Seq.{drop-cons}
 use Rattle.std.proofs.Math.ListN.{drop_of_length-le}
+use Rattle.std.proofs.lemmas.List.{drop_more}
 use Rattle.std.proofs.lemmas.List.Elements.{All-push, All-head}
-use Rattle.cf_model.specs.FlatFunctions.{IsAssignment}
 use Rattle.cf_circuits.specs.declared.gates.Cell.{Cell}
 use Rattle.cf_circuits.specs.declared.gates.Cell.TheVariants.{Zero, One, Any}
-use Rattle.cf_circuits.specs.declared.gates.Cover.{Cover}
-use Rattle.cf_circuits.specs.Covers.{takes, matches, some_matches, cover_value}
-use Rattle.cf_pkg.specs.Packages.{Package, Keeps}
-use Rattle.cf_circuit.specs.declared.truths.Truth.{Truth}
-use Rattle.cf_circuit.specs.Truths.{Test, Tells, IsAt}
-use Rattle.cf_circuit.specs.Planes.{plane_at, cell_at, IsWide, matches_from, AreAllPlaces, AreParted}
-use Rattle.cf_circuit.specs.Covers.{Tests, TellWires, AreWiresAt, truth_at, at_wires}
-use Rattle.cf_circuit.proofs.TruthLaws.{tells_kept, tells_same}
+use Rattle.cf_circuits.specs.Covers.{allows, matches}
+use Rattle.cf_circuit.specs.Planes.{some_matches, plane_at, cell_at, IsWide, matches_from, AreAllPlaces, AreParted}
 
 or_assoc : (a b c : Bool) → (a || (b || c)) ≡ ((a || b) || c)
 or_assoc true b c = refl
@@ -39,15 +33,15 @@ pub record Placing (planes : List (List Cell)) (places : List ℕ) (k : ℕ) : T
   pub there : All (λ place. place < length planes) places
   pub match : (vs : List Bool) → (matches_from planes 0 places vs || some_matches (drop k planes) vs) ≡ some_matches planes vs
 
-pub placing_more : (planes : List (List Cell)) (places : List ℕ) (k : ℕ) → k < length planes → Placing planes places k → Placing planes (places ++ k ∷ []) (suc k)
+pub placing_more : (planes : List (List Cell)) (places : List ℕ) (k : ℕ) → k < length planes → Placing planes places k → Placing planes (places ++ k ∷ []) (k + 1)
 placing_more planes places k low h = record {
   there = All-push (λ place. place < length planes) places k h.there low;
   match = λ vs.
       (let plane = plane_at planes k in
       let before = matches_from planes 0 places vs in
-      ap (λ b. b || some_matches (drop (suc k) planes) vs) (matches_push planes 0 places k vs)
-      ∙ sym (or_assoc before (matches plane vs) (some_matches (drop (suc k) planes) vs))
-      ∙ ap (λ ps. before || some_matches ps vs) (sym (drop-cons planes k [] low))
+      ap (λ b. b || some_matches (drop (k + 1) planes) vs) (matches_push planes 0 places k vs)
+      ∙ sym (or_assoc before (matches plane vs) (some_matches (drop (k + 1) planes) vs))
+      ∙ ap (λ ps. before || some_matches ps vs) (sym (drop_more planes k [] low))
       ∙ h.match vs);
 }
 
@@ -92,11 +86,11 @@ parting_done planes width input places zeros ones others h = record {
 }
 
 read_plane : (planes : List (List Cell)) (width input place : ℕ) → input < width → IsWide planes width place → (c : Cell) → c ≡ cell_at planes place input → (v : Bool) (vs : List Bool)
-    → matches (drop input (plane_at planes place)) (v ∷ vs) ≡ (takes c v && matches (drop (suc input) (plane_at planes place)) vs)
+    → matches (drop input (plane_at planes place)) (v ∷ vs) ≡ (allows c v && matches (drop (suc input) (plane_at planes place)) vs)
 read_plane planes width input place low wide c e v vs =
     let plane = plane_at planes place in
     ap (λ cs. matches cs (v ∷ vs)) (drop-cons plane input Any (omega (arith, low, wide.1)))
-    ∙ ap (λ (x : Cell). takes x v && matches (drop (suc input) plane) vs) (sym e)
+    ∙ ap (λ (x : Cell). allows x v && matches (drop (suc input) plane) vs) (sym e)
 
 zero_in : (n v o z m r : Bool) → ((n || (if v then o else z)) || ((not v && m) || r)) ≡ ((n || (if v then o else (z || m))) || r)
 zero_in true v o z m r = refl
@@ -127,10 +121,10 @@ other_in false m false r = by m r
 
 module _ (planes : List (List Cell)) (width input : ℕ) (low : input < width) (places zeros ones others left : List ℕ) (place : ℕ) (wide : IsWide planes width place)
     (h : Parting planes width input places zeros ones others (place ∷ left)) where
-  after : List ℕ → List Bool → Bool
+  abbrev after : List ℕ → List Bool → Bool
   after ps vs = matches_from planes (suc input) ps vs
 
-  here : List Bool → Bool
+  abbrev here : List Bool → Bool
   here vs = matches (drop (suc input) (plane_at planes place)) vs
 
   pub turn_zero : Zero ≡ cell_at planes place input → Parting planes width input places (zeros ++ place ∷ []) ones others left
@@ -176,62 +170,7 @@ end_matches planes width (place ∷ places) wide some input past =
     let is = All-head (IsWide planes width) place places wide in
     ap (λ cs. matches cs [] || matches_from planes input places []) (drop_of_length-le (plane_at planes place) (omega (arith, is.1, past)))
 
--- where planes match that were parted
-pub parted_tells : (p : Package) (l : ℕ) (planes : List (List Cell)) (width : ℕ) (places zeros ones others : List ℕ) (tests : Tests) (wire : ℕ) (later : List ℕ) (r : Truth) (input : ℕ)
-    → input ≡ width - length (wire ∷ later) → length (wire ∷ later) ≤ width
-    → AreParted planes width input places zeros ones others
-    → Tells p l (λ a. matches_from planes (width - length later) others (at_wires tests later a)
-    || (if tests wire a then matches_from planes (width - length later) ones (at_wires tests later a) else matches_from planes (width - length later) zeros (at_wires tests later a))) r
-    → Tells p l (λ a. matches_from planes (width - length (wire ∷ later)) places (at_wires tests (wire ∷ later) a)) r
-parted_tells p l planes width places zeros ones others tests wire later r input e fits parts h =
-    let next : suc input ≡ width - length later = omega (arith, e, fits) in
-    let parted : ℕ → Test = λ i a. matches_from planes i others (at_wires tests later a)
-    || (if tests wire a then matches_from planes i ones (at_wires tests later a) else matches_from planes i zeros (at_wires tests later a)) in
-    tells_same p l (parted (width - length later)) (λ a. matches_from planes (width - length (wire ∷ later)) places (at_wires tests (wire ∷ later) a)) r h
-    (λ a is.
-    ap (λ i. parted i a) (sym next)
-    ∙ sym (parts.match (tests wire a) (at_wires tests later a))
-    ∙ ap (λ i. matches_from planes i places (at_wires tests (wire ∷ later) a)) e)
-
--- the wires of a package that grows
-pub wires_kept : (p q : Package) → Keeps p q → (l : ℕ) (truths : List Truth) (wires : List ℕ) (tests : Tests) → TellWires p l truths wires tests → TellWires q l truths wires tests
-wires_kept p q k l truths wires tests h i d low =
-    let at = h i d low in (at.0, tells_kept p q k l (tests (get_or wires i d)) (truth_at truths (get_or wires i d)) at.1)
-
--- the first wire and the later ones
-pub first_wire : (p : Package) (l : ℕ) (truths : List Truth) (wire : ℕ) (later : List ℕ) (tests : Tests) → TellWires p l truths (wire ∷ later) tests
-    → (wire < length truths) × Tells p l (tests wire) (truth_at truths wire)
-first_wire p l truths wire later tests h = All-head (λ w. (w < length truths) × Tells p l (tests w) (truth_at truths w)) wire later h
-
-pub later_wires : (p : Package) (l : ℕ) (truths : List Truth) (wire : ℕ) (later : List ℕ) (tests : Tests) → TellWires p l truths (wire ∷ later) tests → TellWires p l truths later tests
-later_wires p l truths wire later tests h i d low = h (suc i) d (omega (arith, low))
-
--- where a cover is 1, from where one of its planes matches
+-- all planes are wide
 pub all_wide : (planes : List (List Cell)) (width : ℕ) (places : List ℕ) → AreAllPlaces planes places → All (λ plane. length plane ≡ width) planes → All (IsWide planes width) places
 all_wide planes width places all cells i d low =
     let there = all.there i d low in (there, cells (get_or places i d) [] there)
-
-on_is : (s b : Bool) → b ≡ true → s ≡ (if s then b else not b)
-on_is true b e = sym e
-on_is false b e = sym (ap not e)
-
-off_is : (s b : Bool) → b ≡ false → not s ≡ (if s then b else not b)
-off_is true b e = sym e
-off_is false b e = sym (ap not e)
-
-same_width : (width : ℕ) → width - width ≡ 0
-same_width width = omega arith
-
-module _ (p : Package) (l : ℕ) (cover : Cover) (places : List ℕ) (all : AreAllPlaces cover.planes places) (tests : Tests) (wires : List ℕ) (r : Truth) where
-  matched_is : (a : List Bool) → matches_from cover.planes (length wires - length wires) places (at_wires tests wires a) ≡ some_matches cover.planes (at_wires tests wires a)
-  matched_is a = ap (λ i. matches_from cover.planes i places (at_wires tests wires a)) (same_width (length wires)) ∙ all.match (at_wires tests wires a)
-
-  pub on_tells : cover.on ≡ true → Tells p l (λ a. matches_from cover.planes (length wires - length wires) places (at_wires tests wires a)) r
-      → Tells p l (λ a. cover_value cover (at_wires tests wires a)) r
-  on_tells e h = tells_same p l _ (λ a. cover_value cover (at_wires tests wires a)) r h (λ a is. matched_is a ∙ on_is (some_matches cover.planes (at_wires tests wires a)) cover.on e)
-
-  pub off_tells : cover.on ≡ false → Tells p l (λ a. not (matches_from cover.planes (length wires - length wires) places (at_wires tests wires a))) r
-      → Tells p l (λ a. cover_value cover (at_wires tests wires a)) r
-  off_tells e h =
-      tells_same p l _ (λ a. cover_value cover (at_wires tests wires a)) r h
-      (λ a is. ap not (matched_is a) ∙ off_is (some_matches cover.planes (at_wires tests wires a)) cover.on e)

@@ -20,7 +20,7 @@ use Rattle.cf_circuit.specs.Truths.{IsTotal, Test, Shows, Tells, IsAt}
 
 -- no operation that is used here lacks a value
 some-not-none : {A : Type 0} (o : Option A) → is_some o ≡ true → o ≡ None → ⊥
-some-not-none None h e = let no : ⊥ = cc in no
+some-not-none None h e = let never : ⊥ = cc in never
 some-not-none (Some x) h e = absurd (none-some _ (sym e))
 
 pub map_has : (p : Package) (f : Func) (l : ℕ) (at : List Bool) → IsLeastWithout l (map_value p (of_one Not) f) at → ⊥

@@ -1,7 +1,12 @@
 use Rattle.std.specs.Prelude.{◌≡◌, ◌<◌, ℕ, suc, Bool, false, ◌||◌, List, [], ◌∷◌, length, drop, All, slice_index_or, if◌then◌else◌}
+use Rattle.std.specs.List.{list_any}
 use Rattle.cf_circuits.specs.declared.gates.Cell.{Cell}
 use Rattle.cf_circuits.specs.declared.gates.Cell.TheVariants.{Any}
-use Rattle.cf_circuits.specs.Covers.{matches, some_matches}
+use Rattle.cf_circuits.specs.Covers.{matches}
+
+-- whether some plane matches
+abbrev pub some_matches : List (List Cell) → List Bool → Bool
+some_matches planes vs = list_any (λ plane. matches plane vs) planes
 
 -- the plane at a place
 abbrev pub plane_at : List (List Cell) → ℕ → List Cell

@@ -2,7 +2,7 @@
 
 ghost use Rattle.std.specs.Prelude.{◌≡◌, ◌≤◌, ℕ, IfOk};
 ghost use Rattle.cf_pkg.specs.Packages.{OwnsFunction, Keeps};
-ghost use Rattle.cf_circuit.specs.Truths.{IsAt, AreAt, AreAllAt, TellsNot, TellsEither, TellsChoice, TellsChoiceBy, IsOf};
+ghost use Rattle.cf_circuit.specs.Truths.{IsAt, AreAt, AreAllAt, TellsNot, TellsEither, TellsChoice, IsOf};
 
 use crate::NoMemory;
 use crate::words::{chosen, joined, negated};

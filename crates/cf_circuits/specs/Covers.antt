@@ -1,26 +1,24 @@
-use Rattle.std.specs.Prelude.{Bool, true, false, not, ◌&&◌, ◌||◌, if◌then◌else◌, List, [], ◌∷◌}
+use Rattle.std.specs.Prelude.{◌&&◌, not, Bool, true, false, List, [], ◌∷◌, if◌then◌else◌}
+use Rattle.std.specs.List.{list_any}
 use Rattle.cf_circuits.specs.declared.gates.Cell.{Cell}
-use Rattle.cf_circuits.specs.declared.gates.Cell.TheVariants.{Zero, One, Any}
-use Rattle.cf_circuits.specs.declared.gates.Cover as cover
+use Rattle.cf_circuits.specs.declared.gates.Cell.TheVariants as cell
+use Rattle.cf_circuits.specs.declared.gates.Cover.{Cover}
 
--- whether a cell takes the value of its input
-abbrev pub takes : Cell → Bool → Bool
-takes Zero v = not v
-takes One v = v
-takes Any v = true
+-- What a gate's cover gives on the values of its inputs.
 
--- whether a plane matches the values of the inputs: cell by cell, and not where their numbers differ
+-- whether a cell lets a value pass
+abbrev pub allows : Cell → Bool → Bool
+allows cell.Zero value = not value
+allows cell.One value = value
+allows cell.Any value = true
+
+-- whether a plane matches values, cell by cell; one of another length doesn't
 abbrev pub matches : List Cell → List Bool → Bool
 matches [] [] = true
-matches [] (v ∷ vs) = false
-matches (c ∷ cs) [] = false
-matches (c ∷ cs) (v ∷ vs) = takes c v && matches cs vs
+matches [] (value ∷ values) = false
+matches (c ∷ cells) [] = false
+matches (c ∷ cells) (value ∷ values) = allows c value && matches cells values
 
--- whether some plane matches
-abbrev pub some_matches : List (List Cell) → List Bool → Bool
-some_matches [] vs = false
-some_matches (plane ∷ planes) vs = matches plane vs || some_matches planes vs
-
--- the value of a cover: `on` where some plane matches, else the opposite
-abbrev pub cover_value : cover.Cover → List Bool → Bool
-cover_value c vs = if some_matches c.planes vs then c.on else not c.on
+-- `on` where some plane matches, else the opposite
+abbrev pub cover_value : Cover → List Bool → Bool
+cover_value cover values = if list_any (λ plane. matches plane values) cover.planes then cover.on else not cover.on

@@ -1,7 +1,7 @@
 use Rattle.std.proofs.Common.{◌+◌, length}
 use Rattle.cf_circuit.specs.Functions.{wire_test}
-use Rattle.cf_circuit.proofs.WireLaws.{Wired}
-use Rattle.cf_circuit.proofs.build.wires_of.Given as goal
+use Rattle.cf_circuit.proofs.BuildLaws.{Wired}
+use Rattle.cf_circuit.proofs.outputs.wires_of.Given as goal
 
 abbrev pub invariant-loop-position : goal.invariant-loop-position
 invariant-loop-position l =

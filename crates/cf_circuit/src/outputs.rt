@@ -84,7 +84,7 @@ fn wires_of(
 }
 
 /// The cover of a gate.
-fn cover_of(flat: &Flat, gate: &FlatGate) -> &Cover
+fn cover_of<'a>(flat: &'a Flat, gate: &FlatGate) -> &'a Cover
     requires there { gate.now.cover < length flat.now.covers }
     ensures { result.now ≡ cover_at flat.now.covers gate.now.cover }
 {
