@@ -1,17 +1,17 @@
 -- What the operations on truths tell, case by case.
-use Rattle.std.proofs.Common.{ℕ, ◌≡◌, Bool, true, false, not, ◌&&◌, ◌||◌, List, Some, refl, sym, ap, subst, ◌∙◌}
+use Rattle.std.proofs.Common.{ℕ, ◌≡◌, Bool, true, false, not, ◌&&◌, ◌||◌, List, Some, Result, Ok, Err, IfOk, pos, refl, sym, ap, subst, ◌∙◌}
 use Rattle.std.specs.Prelude.{if◌then◌else◌}
-use Rattle.cf_model.specs.FlatFunctions.{IsAssignment}
+use Rattle.cf_model.specs.FlatFunctions.{IsAssignment, tabulated}
 use Rattle.cf_model.specs.declared.terms.Word1.TheVariants.{Not}
 use Rattle.cf_model.specs.declared.terms.Word2.TheVariants.{And, Or, Lt}
 use Rattle.cf_ops.specs.Operations.{of_one, of_two, of_three}
 use Rattle.cf_pkg.specs.declared.Func.{Func}
-use Rattle.cf_pkg.specs.Packages.{Package, OwnsFunction, Keeps}
+use Rattle.cf_pkg.specs.Packages.{Package, OwnsFunction, Keeps, Means}
 use Rattle.cf_pkg.specs.Jobs.{HasValues, AreLevel, map_value, apply_value, ternary_value}
 use Rattle.cf_circuit.specs.declared.truths.Truth.{Truth}
 use Rattle.cf_circuit.specs.declared.truths.Truth.TheVariants.{Never, Always, Where}
-use Rattle.cf_circuit.specs.Truths.{Test, Shows, Tells, IsAt, AreAt, AreAllAt, TellsNot, TellsEither, TellsChoice}
-use Rattle.cf_circuit.proofs.TruthLaws.{negated_shows, or_shows, and_shows, less_shows, chosen_shows, tells_kept, tells_same}
+use Rattle.cf_circuit.specs.Truths.{Test, Shows, Tells, IsAt, AreAt, AreAllAt, TellsNot, TellsEither, TellsChoice, IsOf}
+use Rattle.cf_circuit.proofs.TruthLaws.{constant_shows, negated_shows, or_shows, and_shows, less_shows, chosen_shows, tells_kept, tells_same}
 
 or_true : (u : Bool) → (u || true) ≡ true
 or_true true = refl
@@ -185,3 +185,16 @@ level_of_not p m f n g b k e at h =
     let t : Shows p at.0 at.2.0 g = subst (λ (t : Truth). Tells p at.0 at.2.0 t) e at.2.1 in
     let kept = k.functions g t.owned in
     record { first = h.owned; second = kept.owned; level = h.level ∙ at.1.1.level ∙ sym t.level }
+
+-- the function of a constant
+pub shows_never : {E : Type 0} (p q : Package) (l : ℕ) (a : Truth) (result : Result Func E) → a ≡ Never → IfOk result (λ f. f.head.level ≡ l) → IfOk result (λ f. Means q f (tabulated l (λ bits. pos 0)))
+    → IfOk result (IsOf p q l a)
+shows_never p q l a (Ok r) e level m =
+    subst (λ (t : Truth). IsOf p q l t r) (sym e) (λ x h. constant_shows q r l false (pos 0) refl level m x h)
+shows_never p q l a (Err fault) e level m = tt
+
+pub shows_always : {E : Type 0} (p q : Package) (l : ℕ) (a : Truth) (result : Result Func E) → a ≡ Always → IfOk result (λ f. f.head.level ≡ l) → IfOk result (λ f. Means q f (tabulated l (λ bits. pos 1)))
+    → IfOk result (IsOf p q l a)
+shows_always p q l a (Ok r) e level m =
+    subst (λ (t : Truth). IsOf p q l t r) (sym e) (λ x h. constant_shows q r l true (pos 1) refl level m x h)
+shows_always p q l a (Err fault) e level m = tt
