@@ -3,7 +3,7 @@ use Rattle.std.proofs.Common.{ℕ, zero, suc, ◌≡◌, ◌+◌, ◌<◌, ◌�
 use Rattle.std.specs.Prelude.{slice_index_or}
 use Rattle.std.specs.List.{All, slice_get}
 use Rattle.std.proofs.lemmas.Option.{slice_get-get_or, slice_get_within, get_or_from_slice_get}
-use Rattle.std.proofs.lemmas.List.{get_or-map, get_or_push, length_push, length-map, get_or_append_left}
+use Rattle.std.proofs.lemmas.List.{get_or_default, get_or-map, get_or_push, length_push, length-map, get_or_append_left}
 use Rattle.std.proofs.lemmas.Bool.{cases_lt}
 use Rattle.std.proofs.lemmas.List.Elements.{All-head, All-tail}
 use Rattle.cf_model.specs.Assignments.{bit_at}
@@ -15,6 +15,7 @@ use Rattle.cf_hierarchy.proofs.Values.{wire_first}
 use Rattle.cf_flat.specs.declared.flat.Flat.{Flat}
 use Rattle.cf_flat.specs.declared.flat.Out.{Out}
 use Rattle.cf_flat.specs.Flats.{IsFlat, means_of, wire_value, cover_at}
+use Rattle.cf_circuits.specs.declared.gates.Cover.{Cover}
 use Rattle.cf_circuits.specs.Covers.{cover_value}
 use Rattle.cf_pkg.specs.declared.Func.{Func}
 use Rattle.cf_pkg.specs.Packages.{Package, Keeps, Means}
@@ -23,7 +24,7 @@ use Rattle.cf_pkg.proofs.Finishing.{means_has, values_kept}
 use Rattle.cf_circuit.specs.declared.truths.Truth.{Truth}
 use Rattle.cf_circuit.specs.declared.truths.Truth.TheVariants.{Never, Always, Where}
 use Rattle.cf_circuit.specs.Truths.{Test, Tells, Shows}
-use Rattle.cf_circuit.specs.Covers.{Tests, TellWires, truth_at, at_wires}
+use Rattle.cf_circuit.specs.Covers.{Tests, TellWires, TellsCover, truth_at, at_wires}
 use Rattle.cf_circuit.specs.Needs.{gate_at, is_needed, AreNeeded}
 use Rattle.cf_circuit.specs.Functions.{bits_at, wire_test, AreTold}
 use Rattle.cf_circuit.proofs.TruthLaws.{tells_kept, tells_same}
@@ -85,6 +86,22 @@ module _ (flat : Flat) (is_flat : IsFlat flat) (l : ℕ) (positions : List ℕ) 
   gate_tells q i r low h =
       tells_same q l _ (tests (length flat.inputs + i)) r h
       (λ a is. sym (wire_of_gate (means_of flat.covers) (length flat.inputs) (bits_at positions a) flat.gates (long a) is_flat.lower i no_gate low))
+
+  -- from the code's view of a gate
+  pub gate_done : (p q : Package) (truths given : List Truth) (cover : Cover) (wires : List ℕ) (gate : Gate) (r : Truth) (i : ℕ) → i < length flat.gates
+      → cover ≡ cover_at flat.covers gate.cover → wires ≡ gate.ins → gate ≡ gate_at flat.gates i → given ≡ truths → TellsCover p q cover given wires r
+      → TellWires p l truths (gate_at flat.gates i).ins tests → Tells q l (tests (length flat.inputs + i)) r
+  gate_done p q truths given cover wires gate r i low is_cover is_wires is_gate same h told =
+      let c : cover ≡ cover_at flat.covers (gate_at flat.gates i).cover = is_cover ∙ ap (λ (x : Gate). cover_at flat.covers x.cover) is_gate in
+      let w : wires ≡ (gate_at flat.gates i).ins = is_wires ∙ ap (λ (x : Gate). x.ins) is_gate in
+      let tells = subst (λ (ts : List Truth). TellsCover p q (cover_at flat.covers (gate_at flat.gates i).cover) ts (gate_at flat.gates i).ins r) same
+      (subst (λ (ws : List ℕ). TellsCover p q (cover_at flat.covers (gate_at flat.gates i).cover) given ws r) w
+      (subst (λ (x : Cover). TellsCover p q x given wires r) c h)) in
+      gate_tells q i r low (tells l tests told)
+
+-- an item that was read
+pub read_is : {A : Type 0} (xs ys : List A) (i : ℕ) (x d : A) → i < length xs → x ≡ get_or xs i x → xs ≡ ys → x ≡ get_or ys i d
+read_is xs ys i x d low e same = e ∙ get_or_default xs i x d low ∙ ap (λ zs. get_or zs i d) same
 
 -- as functions of outputs are added
 pub record Shown (before now : Package) (l : ℕ) (flat : Flat) (positions : List ℕ) (needed : List Bool) (truths : List Truth) (fs : List Func) (k : ℕ) : Type 0 where

@@ -1,15 +1,16 @@
 -- Where planes match, from where those do that ask for a 0 of the first wire, for a 1, and for nothing.
-use Rattle.std.proofs.Common.{ℕ, ◌≡◌, ◌-◌, ◌<◌, ◌≤◌, Bool, ◌||◌, List, ◌∷◌, length, refl, sym, ap, subst, ◌∙◌}
+use Rattle.std.proofs.Common.{ℕ, ◌≡◌, ◌-◌, ◌<◌, ◌≤◌, Bool, false, ◌||◌, List, ◌∷◌, length, Result, Ok, Err, IfOk, refl, sym, ap, subst, ◌∙◌}
 use Rattle.std.specs.Prelude.{if◌then◌else◌}
 use Rattle.cf_circuits.specs.declared.gates.Cell.{Cell}
+use Rattle.cf_circuits.specs.declared.gates.Cover.{Cover}
 use Rattle.cf_pkg.specs.Packages.{Package, Keeps}
 use Rattle.cf_pkg.proofs.Valued.{Keeps-trans}
 use Rattle.cf_circuit.specs.declared.truths.Truth.{Truth}
-use Rattle.cf_circuit.specs.Truths.{Test, Tells, IsAt, AreAt, AreAllAt, TellsEither, TellsChoice}
-use Rattle.cf_circuit.specs.Planes.{matches_from, AreParted}
-use Rattle.cf_circuit.specs.Covers.{Tests, TellWires, AreWiresAt, TellsPlanes, truth_at, at_wires}
+use Rattle.cf_circuit.specs.Truths.{Test, Tells, IsAt, AreAt, AreAllAt, TellsNot, TellsEither, TellsChoice}
+use Rattle.cf_circuit.specs.Planes.{matches_from, AreAllPlaces, AreParted}
+use Rattle.cf_circuit.specs.Covers.{Tests, TellWires, AreWiresAt, TellsPlanes, TellsCover, truth_at, at_wires}
 use Rattle.cf_circuit.proofs.TruthLaws.{tells_kept}
-use Rattle.cf_circuit.proofs.MatchLaws.{parted_tells, wires_kept, first_wire, later_wires}
+use Rattle.cf_circuit.proofs.MatchLaws.{off_tells, parted_tells, wires_kept, first_wire, later_wires}
 
 -- wires of a level, later on
 pub wires_at : (p q : Package) (truths : List Truth) (wires later : List ℕ) (wire : ℕ) → wires ≡ wire ∷ later → Keeps p q → (l : ℕ) × AreWiresAt p l truths wires
@@ -83,3 +84,21 @@ module _ (p p1 p2 p3 : Package) (k1 : Keeps p p1) (k2 : Keeps p1 p2) (k3 : Keeps
         (parted_tells p5 l planes width places zeros ones others tests wire later r input (is ∙ ap (λ (ws : List ℕ). width - length ws) e) (subst (λ (ws : List ℕ). length ws ≤ width) e fits) parts
         (joins l (at tests others) (choice tests) (tells_kept p3 p4 k4 l (at tests others) always (always_tells l tests first))
         (chooses l (tests wire) (at tests ones) (at tests zeros) (wire_tells l tests first) (one_tells l tests first) (zero_tells l tests first))))
+
+-- what an answer tells, from what another one does
+pub if_ok : {T E : Type 0} (result : Result T E) (P Q : T → Type 0) → ((t : T) → P t → Q t) → IfOk result P → IfOk result Q
+if_ok (Ok t) P Q f h = f t h
+if_ok (Err fault) P Q f h = tt
+
+pub planes_at : (p q : Package) (planes : List (List Cell)) (width : ℕ) (places : List ℕ) (truths : List Truth) (wires : List ℕ) (r : Truth) → TellsPlanes p q planes width places truths wires r
+    → (l : ℕ) × AreWiresAt p l truths wires → (l : ℕ) × IsAt q l r
+planes_at p q planes width places truths wires r h at =
+    (at.0, ((λ a. matches_from planes (width - length wires) places (at_wires at.1.0 wires a)), h at.0 at.1.0 at.1.1))
+
+pub cover_off : (p q r : Package) (cover : Cover) (planes : List (List Cell)) (places given : List ℕ) (truths : List Truth) (wires : List ℕ) (m : Truth) → planes ≡ cover.planes → given ≡ places
+    → AreAllPlaces planes places → TellsPlanes p q planes (length wires) given truths wires m → cover.on ≡ false → (t : Truth) → TellsNot q r m t → TellsCover p r cover truths wires t
+cover_off p q r cover planes places given truths wires m e same all h off t n l tests told =
+    let there : AreAllPlaces cover.planes places = subst (λ (ps : List (List Cell)). AreAllPlaces ps places) e all in
+    let tells : TellsPlanes p q cover.planes (length wires) places truths wires m =
+    subst (λ (ps : List (List Cell)). TellsPlanes p q ps (length wires) places truths wires m) e (subst (λ (gs : List ℕ). TellsPlanes p q planes (length wires) gs truths wires m) same h) in
+    off_tells r l cover places there tests wires t off (n l (λ a. matches_from cover.planes (length wires - length wires) places (at_wires tests wires a)) (tells l tests told))
