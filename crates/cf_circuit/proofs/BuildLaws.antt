@@ -1,20 +1,17 @@
 -- The wires of a circuit and the functions of its outputs, as they are added.
-use Rattle.std.proofs.Common.{ℕ, zero, suc, ◌≡◌, ◌+◌, ◌<◌, ◌≤◌, Bool, true, false, List, [], ◌∷◌, ◌++◌, length, map, get_or, refl, sym, ap, subst, ◌∙◌, arith, inl, inr, Some}
-use Rattle.std.specs.Prelude.{slice_index_or}
-use Rattle.std.specs.List.{All, slice_get}
+use Rattle.std.proofs.Common.{ℕ, ◌≡◌, ◌+◌, ◌<◌, Bool, true, false, List, [], ◌∷◌, ◌++◌, length, get_or, sym, ap, subst, ◌∙◌, arith, inl, inr, Some}
+use Rattle.std.specs.List.{slice_get}
 use Rattle.std.proofs.lemmas.Option.{slice_get-get_or, slice_get_within, get_or_from_slice_get}
 use Rattle.std.proofs.lemmas.List.{get_or_default, get_or-map, get_or_push, length_push, length-map, get_or_append_left}
 use Rattle.std.proofs.lemmas.Bool.{cases_lt}
-use Rattle.std.proofs.lemmas.List.Elements.{All-head, All-tail}
 use Rattle.cf_model.specs.Assignments.{bit_at}
-use Rattle.cf_model.specs.FlatFunctions.{IsAssignment, variable}
+use Rattle.cf_model.specs.FlatFunctions.{variable}
 use Rattle.cf_model.specs.Terms.{truth}
 use Rattle.cf_hierarchy.specs.declared.gates.Gate.{Gate}
-use Rattle.cf_hierarchy.specs.Circuits.{Meaning, UsesLower, wire_values}
 use Rattle.cf_hierarchy.proofs.Values.{wire_first}
 use Rattle.cf_flat.specs.declared.flat.Flat.{Flat}
 use Rattle.cf_flat.specs.declared.flat.Out.{Out}
-use Rattle.cf_flat.specs.Flats.{IsFlat, means_of, wire_value, cover_at}
+use Rattle.cf_flat.specs.Flats.{IsFlat, means_of, cover_at}
 use Rattle.cf_circuits.specs.declared.gates.Cover.{Cover}
 use Rattle.cf_circuits.specs.Covers.{cover_value}
 use Rattle.cf_pkg.specs.declared.Func.{Func}
@@ -22,8 +19,8 @@ use Rattle.cf_pkg.specs.Packages.{Package, Keeps, Means}
 use Rattle.cf_pkg.proofs.Valued.{Keeps-trans}
 use Rattle.cf_pkg.proofs.Finishing.{means_has, values_kept}
 use Rattle.cf_circuit.specs.declared.truths.Truth.{Truth}
-use Rattle.cf_circuit.specs.declared.truths.Truth.TheVariants.{Never, Always, Where}
-use Rattle.cf_circuit.specs.Truths.{Test, Tells, Shows}
+use Rattle.cf_circuit.specs.declared.truths.Truth.TheVariants.{Never, Where}
+use Rattle.cf_circuit.specs.Truths.{Tells, Shows}
 use Rattle.cf_circuit.specs.Covers.{Tests, TellWires, TellsCover, truth_at, at_wires}
 use Rattle.cf_circuit.specs.Needs.{gate_at, is_needed, AreNeeded}
 use Rattle.cf_circuit.specs.Functions.{bits_at, wire_test, AreTold}

@@ -1,12 +1,12 @@
 -- Where planes match, from where those do that ask for a 0 of the first wire, for a 1, and for nothing.
-use Rattle.std.proofs.Common.{ℕ, ◌≡◌, ◌-◌, ◌<◌, ◌≤◌, Bool, false, ◌||◌, List, ◌∷◌, length, Result, Ok, Err, IfOk, refl, sym, ap, subst, ◌∙◌}
+use Rattle.std.proofs.Common.{ℕ, ◌≡◌, ◌-◌, ◌<◌, ◌≤◌, Bool, false, List, ◌∷◌, length, Result, Ok, Err, IfOk, sym, ap, subst, ◌∙◌}
 use Rattle.std.specs.Prelude.{if◌then◌else◌}
 use Rattle.cf_circuits.specs.declared.gates.Cell.{Cell}
 use Rattle.cf_circuits.specs.declared.gates.Cover.{Cover}
 use Rattle.cf_pkg.specs.Packages.{Package, Keeps}
 use Rattle.cf_pkg.proofs.Valued.{Keeps-trans}
 use Rattle.cf_circuit.specs.declared.truths.Truth.{Truth}
-use Rattle.cf_circuit.specs.Truths.{Test, Tells, IsAt, AreAt, AreAllAt, TellsNot, TellsEither, TellsChoice}
+use Rattle.cf_circuit.specs.Truths.{Tells, IsAt, AreAt, AreAllAt, TellsNot, TellsEither, TellsChoice}
 use Rattle.cf_circuit.specs.Planes.{matches_from, AreAllPlaces, AreParted}
 use Rattle.cf_circuit.specs.Covers.{Tests, TellWires, AreWiresAt, TellsPlanes, TellsCover, truth_at, at_wires}
 use Rattle.cf_circuit.proofs.TruthLaws.{tells_kept}
@@ -28,7 +28,6 @@ module _ (p p1 p2 p3 : Package) (k1 : Keeps p p1) (k2 : Keeps p1 p2) (k3 : Keeps
     (others_tell : TellsPlanes p p1 planes width others truths later always)
     (ones_tell : TellsPlanes p1 p2 planes width ones truths later one)
     (zeros_tell : TellsPlanes p2 p3 planes width zeros truths later zero) where
-
   k02 : Keeps p p2
   k02 = Keeps-trans p p1 p2 k1 k2
 
@@ -72,9 +71,11 @@ module _ (p p1 p2 p3 : Package) (k1 : Keeps p p1) (k2 : Keeps p1 p2) (k3 : Keeps
     either_at h =
         let l = h.0 in
         let tests = h.1.0 in
-        let told : TellWires p l truths (wire ∷ later) tests = subst (λ (ws : List ℕ). TellWires p l truths ws tests) e h.1.1 in
-        (l, (at tests others, tells_kept p3 p4 k4 l (at tests others) always (always_tells l tests told)),
-        (choice tests, chooses l (tests wire) (at tests ones) (at tests zeros) (wire_tells l tests told) (one_tells l tests told) (zero_tells l tests told)))
+        let told : TellWires p l truths (wire ∷ later) tests = subst (λ (ws : List ℕ). TellWires p l truths ws tests) e h.1.1 in (
+          l,
+          (at tests others, tells_kept p3 p4 k4 l (at tests others) always (always_tells l tests told)),
+          (choice tests, chooses l (tests wire) (at tests ones) (at tests zeros) (wire_tells l tests told) (one_tells l tests told) (zero_tells l tests told)),
+        )
 
     pub planes_tell : (p5 : Package) (r : Truth) (input : ℕ) → TellsEither p4 p5 always by_wire r → input ≡ width - length wires → length wires ≤ width
         → AreParted planes width input places zeros ones others → TellsPlanes p p5 planes width places truths wires r

@@ -1,7 +1,7 @@
 -- What the operations on truths tell, case by case.
-use Rattle.std.proofs.Common.{ℕ, ◌≡◌, Bool, true, false, not, ◌&&◌, ◌||◌, List, Some, Result, Ok, Err, IfOk, pos, refl, sym, ap, subst, ◌∙◌}
+use Rattle.std.proofs.Common.{ℕ, ◌≡◌, Bool, true, false, not, ◌&&◌, ◌||◌, Result, Ok, Err, IfOk, pos, refl, sym, ap, subst, ◌∙◌}
 use Rattle.std.specs.Prelude.{if◌then◌else◌}
-use Rattle.cf_model.specs.FlatFunctions.{IsAssignment, tabulated}
+use Rattle.cf_model.specs.FlatFunctions.{tabulated}
 use Rattle.cf_model.specs.declared.terms.Word1.TheVariants.{Not}
 use Rattle.cf_model.specs.declared.terms.Word2.TheVariants.{And, Or, Lt}
 use Rattle.cf_ops.specs.Operations.{of_one, of_two, of_three}
@@ -10,7 +10,7 @@ use Rattle.cf_pkg.specs.Packages.{Package, OwnsFunction, Keeps, Means}
 use Rattle.cf_pkg.specs.Jobs.{HasValues, AreLevel, map_value, apply_value, ternary_value}
 use Rattle.cf_circuit.specs.declared.truths.Truth.{Truth}
 use Rattle.cf_circuit.specs.declared.truths.Truth.TheVariants.{Never, Always, Where}
-use Rattle.cf_circuit.specs.Truths.{Test, Shows, Tells, IsAt, AreAt, AreAllAt, TellsNot, TellsEither, TellsChoice, IsOf}
+use Rattle.cf_circuit.specs.Truths.{Shows, Tells, IsAt, AreAt, AreAllAt, TellsNot, TellsEither, TellsChoice, IsOf}
 use Rattle.cf_circuit.proofs.TruthLaws.{constant_shows, negated_shows, or_shows, and_shows, less_shows, chosen_shows, tells_kept, tells_same}
 
 or_true : (u : Bool) → (u || true) ≡ true

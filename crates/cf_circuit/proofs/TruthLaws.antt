@@ -1,22 +1,22 @@
 -- What operations on functions with values 0 and 1 tell.
-use Rattle.std.proofs.Common.{ℕ, ℤ, ◌≡◌, ◌≤◌, pos, Bool, true, false, not, ◌&&◌, ◌||◌, List, Option, Some, None, Result, Err, IfOk, refl, sym, ap, subst, ◌∙◌}
+use Rattle.std.proofs.Common.{ℕ, ℤ, ◌≡◌, pos, Bool, true, false, not, ◌&&◌, ◌||◌, List, Option, Some, None, refl, sym, ap, subst, ◌∙◌}
 use Rattle.std.specs.Prelude.{if◌then◌else◌, is_some}
 use Rattle.std.proofs.lemmas.Option.{get_or_from_slice_get, none-some}
-use Rattle.cf_model.specs.Assignments.{Assignment, bits, number_of}
-use Rattle.cf_model.specs.FlatFunctions.{IsAssignment, IsLeast, tabulated}
-use Rattle.cf_model.specs.Terms.{truth, value1, value2, joined, chosen, term}
+use Rattle.cf_model.specs.Assignments.{number_of}
+use Rattle.cf_model.specs.FlatFunctions.{IsAssignment, tabulated}
+use Rattle.cf_model.specs.Terms.{truth, value1, value2, chosen}
 use Rattle.cf_model.specs.declared.terms.Word1.TheVariants.{Not}
 use Rattle.cf_model.specs.declared.terms.Word2.{Word2}
 use Rattle.cf_model.specs.declared.terms.Word2.TheVariants.{And, Or, Lt}
 use Rattle.cf_ops.specs.Operations.{of_one, of_two, of_three}
 use Rattle.cf_ops.proofs.TermFacts.{term-of_one, term-of_two, term-of_three}
 use Rattle.cf_pkg.specs.declared.Func.{Func}
-use Rattle.cf_pkg.specs.Packages.{Package, OwnsFunction, Keeps, Means, meaning}
+use Rattle.cf_pkg.specs.Packages.{Package, Keeps, Means, meaning}
 use Rattle.cf_pkg.specs.Jobs.{HasValues, AreLevel, IsLeastWithout, value_in, map_value, apply_value, ternary_value}
 use Rattle.cf_pkg.proofs.Finishing.{values_kept, means_has}
 use Rattle.cf_circuit.specs.declared.truths.Truth.{Truth}
 use Rattle.cf_circuit.specs.declared.truths.Truth.TheVariants.{Never, Always, Where}
-use Rattle.cf_circuit.specs.Truths.{IsTotal, Test, Shows, Tells, IsAt}
+use Rattle.cf_circuit.specs.Truths.{IsTotal, Test, Shows, Tells}
 
 -- no operation that is used here lacks a value
 some-not-none : {A : Type 0} (o : Option A) → is_some o ≡ true → o ≡ None → ⊥

@@ -3,7 +3,7 @@ use Rattle.cf_model.specs.FlatFunctions.{IsAssignment}
 use Rattle.cf_model.specs.Terms.{truth, value2}
 use Rattle.cf_model.specs.declared.terms.Word2.{Word2}
 use Rattle.cf_pkg.specs.declared.Func.{Func}
-use Rattle.cf_pkg.specs.Packages.{Package, OwnsFunction}
+use Rattle.cf_pkg.specs.Packages.{Package}
 use Rattle.cf_pkg.specs.Jobs.{HasValues}
 use Rattle.cf_circuit.specs.declared.truths.Truth.{Truth}
 use Rattle.cf_circuit.specs.declared.truths.Truth.TheVariants.{Never, Always, Where}

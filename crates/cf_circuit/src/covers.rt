@@ -59,9 +59,33 @@ fn of_planes(
         return Ok(Truth::Always);
     };
     let parts = parted(alloc, planes, places, width - wires.len() as u64, width)?;
-    let always = of_planes(alloc, pkg, planes, truths, later, parts.others.as_slice(), width)?;
-    let one = of_planes(alloc, pkg, planes, truths, later, parts.ones.as_slice(), width)?;
-    let zero = of_planes(alloc, pkg, planes, truths, later, parts.zeros.as_slice(), width)?;
+    let always = of_planes(
+        alloc,
+        pkg,
+        planes,
+        truths,
+        later,
+        parts.others.as_slice(),
+        width,
+    )?;
+    let one = of_planes(
+        alloc,
+        pkg,
+        planes,
+        truths,
+        later,
+        parts.ones.as_slice(),
+        width,
+    )?;
+    let zero = of_planes(
+        alloc,
+        pkg,
+        planes,
+        truths,
+        later,
+        parts.zeros.as_slice(),
+        width,
+    )?;
     let by_wire = choice(pkg, truths[*wire as usize], one, zero)?;
     either(pkg, always, by_wire)
 }

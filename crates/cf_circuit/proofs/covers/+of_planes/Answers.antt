@@ -1,4 +1,4 @@
-use Rattle.std.proofs.Common.{ℕ, ◌≡◌, ◌-◌, ◌<◌, ◌≤◌, List, length, ap, subst, sym, refl, ◌∙◌, arith, rules}
+use Rattle.std.proofs.Common.{ℕ, ◌-◌, ◌<◌, ◌≤◌, List, length, ap, subst, sym, refl, arith, rules}
 use Rattle.std.specs.List.{All}
 use Rattle.cf_pkg.proofs.Valued.{Keeps-same, Keeps-trans}
 use Rattle.cf_circuit.specs.Truths.{TellsEither}
@@ -38,15 +38,19 @@ pub returns-in_err-zero-clause-kept : goal.returns-in_err-zero-clause-kept
 returns-in_err-zero-clause-kept g c = Keeps-trans c.args.pkg.now c.of_planes-2.new.pkg c.of_planes-3.new.pkg (Keeps-trans c.args.pkg.now c.of_planes.new.pkg c.of_planes-2.new.pkg c.of_planes.ensures.kept c.of_planes-2.ensures.kept) c.of_planes-3.ensures.kept
 
 pub choice-requires : goal.choice-requires
-choice-requires g c = record { at = choice_at c.args.pkg.now c.of_planes.new.pkg c.of_planes-2.new.pkg c.of_planes-3.new.pkg c.of_planes.ensures.kept c.of_planes-2.ensures.kept c.of_planes-3.ensures.kept c.args.planes.now c.args.width c.args.places.now c.as_slice-3.result.now c.as_slice-2.result.now c.as_slice.result.now c.args.truths.now c.args.wires.now c.in-Some.later.now c.in-Some.wire.now c.in-Some.ensures.cases.0 c.in_ok-always.always c.in_ok-one.one c.in_ok-zero.zero
-    c.in_ok-always.ensures.told c.in_ok-one.ensures.told c.in_ok-zero.ensures.told c.requires.at }
+choice-requires g c = record {
+  at = choice_at c.args.pkg.now c.of_planes.new.pkg c.of_planes-2.new.pkg c.of_planes-3.new.pkg c.of_planes.ensures.kept c.of_planes-2.ensures.kept c.of_planes-3.ensures.kept c.args.planes.now c.args.width c.args.places.now c.as_slice-3.result.now c.as_slice-2.result.now c.as_slice.result.now c.args.truths.now c.args.wires.now c.in-Some.later.now c.in-Some.wire.now c.in-Some.ensures.cases.0 c.in_ok-always.always c.in_ok-one.one c.in_ok-zero.zero
+      c.in_ok-always.ensures.told c.in_ok-one.ensures.told c.in_ok-zero.ensures.told c.requires.at;
+}
 
 pub returns-in_err-by_wire-clause-kept : goal.returns-in_err-by_wire-clause-kept
 returns-in_err-by_wire-clause-kept g c = Keeps-trans c.args.pkg.now c.of_planes-3.new.pkg c.choice.new.pkg (Keeps-trans c.args.pkg.now c.of_planes-2.new.pkg c.of_planes-3.new.pkg (Keeps-trans c.args.pkg.now c.of_planes.new.pkg c.of_planes-2.new.pkg c.of_planes.ensures.kept c.of_planes-2.ensures.kept) c.of_planes-3.ensures.kept) c.choice.ensures.kept
 
 pub either-requires : goal.either-requires
-either-requires g c = record { at = either_at c.args.pkg.now c.of_planes.new.pkg c.of_planes-2.new.pkg c.of_planes-3.new.pkg c.of_planes.ensures.kept c.of_planes-2.ensures.kept c.of_planes-3.ensures.kept c.args.planes.now c.args.width c.args.places.now c.as_slice-3.result.now c.as_slice-2.result.now c.as_slice.result.now c.args.truths.now c.args.wires.now c.in-Some.later.now c.in-Some.wire.now c.in-Some.ensures.cases.0 c.in_ok-always.always c.in_ok-one.one c.in_ok-zero.zero
-    c.in_ok-always.ensures.told c.in_ok-one.ensures.told c.in_ok-zero.ensures.told c.choice.new.pkg c.choice.ensures.kept c.in_ok-by_wire.by_wire c.in_ok-by_wire.ensures.told c.requires.at }
+either-requires g c = record {
+  at = either_at c.args.pkg.now c.of_planes.new.pkg c.of_planes-2.new.pkg c.of_planes-3.new.pkg c.of_planes.ensures.kept c.of_planes-2.ensures.kept c.of_planes-3.ensures.kept c.args.planes.now c.args.width c.args.places.now c.as_slice-3.result.now c.as_slice-2.result.now c.as_slice.result.now c.args.truths.now c.args.wires.now c.in-Some.later.now c.in-Some.wire.now c.in-Some.ensures.cases.0 c.in_ok-always.always c.in_ok-one.one c.in_ok-zero.zero
+      c.in_ok-always.ensures.told c.in_ok-one.ensures.told c.in_ok-zero.ensures.told c.choice.new.pkg c.choice.ensures.kept c.in_ok-by_wire.by_wire c.in_ok-by_wire.ensures.told c.requires.at;
+}
 
 pub returns-clause-told : goal.returns-clause-told
 returns-clause-told g c =

@@ -6,8 +6,10 @@ use Rattle.cf_circuit.proofs.covers.of_cover.Goals as goal
 
 pub not-requires : goal.not-requires
 not-requires c =
-    record { at = planes_at c.args.pkg.now c.of_planes.new.pkg c.items-planes.result.now (length c.args.wires.now) c.as_slice.result.now c.args.truths.now c.args.wires.now c.in_ok-matched.matched
-    c.in_ok-matched.ensures.told c.requires.at }
+    record {
+      at = planes_at c.args.pkg.now c.of_planes.new.pkg c.items-planes.result.now (length c.args.wires.now) c.as_slice.result.now c.args.truths.now c.args.wires.now c.in_ok-matched.matched
+          c.in_ok-matched.ensures.told c.requires.at;
+    }
 
 pub returns-clause-told : goal.returns-clause-told
 returns-clause-told c =

@@ -1,4 +1,4 @@
-use Rattle.std.proofs.Common.{◌≡◌, ◌+◌, ◌<◌, ℕ, List, true, get_or, length, ap, subst, sym, refl, ◌∙◌, arith}
+use Rattle.std.proofs.Common.{◌≡◌, ◌+◌, ◌<◌, List, true, get_or, length, ap, subst, sym, refl, ◌∙◌, arith}
 use Rattle.cf_flat.specs.declared.flat.Out.{Out}
 use Rattle.cf_pkg.specs.declared.Func.{Func}
 use Rattle.cf_pkg.proofs.Valued.{Keeps-trans}

@@ -1,4 +1,4 @@
-use Rattle.std.proofs.Common.{◌+◌, List, ℕ, subst, sym, arith}
+use Rattle.std.proofs.Common.{◌+◌, List, ℕ, subst, sym}
 use Rattle.cf_circuit.proofs.PlaneLaws.{Placing, placing_more}
 use Rattle.cf_circuit.proofs.parts.all_places.Goals as goal
 

@@ -1,4 +1,3 @@
-use Rattle.std.proofs.Common.{refl, true, false, pos}
 use Rattle.cf_circuit.proofs.TruthCases.{shows_never, shows_always}
 use Rattle.cf_circuit.proofs.truths.function_of.Goals as goal
 
