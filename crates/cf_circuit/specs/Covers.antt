@@ -18,7 +18,8 @@ Tests = ℕ → Test
 
 -- Each of the wires is there, and 1 where its test holds.
 abbrev pub TellWires : Package → ℕ → List Truth → List ℕ → Tests → Type 0
-TellWires p l truths wires tests = All (λ w. (w < length truths) × Tells p l (tests w) (truth_at truths w)) wires
+TellWires p l truths wires tests =
+    All (λ w. (w < length truths) × Tells p l (tests w) (truth_at truths w)) wires
 
 abbrev pub AreWiresAt : Package → ℕ → List Truth → List ℕ → Type 0
 AreWiresAt p l truths wires = (tests : Tests) × TellWires p l truths wires tests
@@ -28,7 +29,8 @@ abbrev pub at_wires : Tests → List ℕ → List Bool → List Bool
 at_wires tests wires a = map (λ w. tests w a) wires
 
 -- where one of the planes matches, read from the input of the first of these wires on
-abbrev pub TellsPlanes : (before now : Package) → List (List Cell) → ℕ → List ℕ → List Truth → List ℕ → Truth → Type 0
+abbrev pub TellsPlanes : (before now : Package) → List (List Cell) → ℕ → List ℕ → List Truth → List ℕ → Truth
+    → Type 0
 TellsPlanes before now planes width places truths wires r =
     (l : ℕ) (tests : Tests) → TellWires before l truths wires tests
     → Tells now l (λ a. matches_from planes (width - length wires) places (at_wires tests wires a)) r

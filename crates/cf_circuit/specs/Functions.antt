@@ -18,7 +18,8 @@ bits_at positions a = map (bit_at a) positions
 abbrev pub wire_test : Flat → List ℕ → ℕ → Test
 wire_test flat positions w a = wire_value flat (bits_at positions a) w
 
--- Each function is the package's, of the level, and at each assignment 1 where the output at its place is 1, else 0.
+-- Each function is the package's, of the level, and at each assignment 1 where the output at its place is 1,
+-- else 0.
 abbrev pub AreFunctionsOf : Package → ℕ → Flat → List ℕ → List Func → Type 0
 AreFunctionsOf p level flat positions fs =
     (i : ℕ) (f : Func) (out : Out) → slice_get fs i ≡ Some f → slice_get flat.outputs i ≡ Some out

@@ -23,4 +23,5 @@ IsClosed needed w g = is_needed needed w ≡ true → All (λ i. is_needed neede
 pub record AreNeeded (flat : Flat) (needed : List Bool) : Type 0 where
   pub full : length needed ≡ length flat.inputs + length flat.gates
   pub outputs : All (λ out. is_needed needed out.wire ≡ true) flat.outputs
-  pub closed : (i : ℕ) → i < length flat.gates → IsClosed needed (length flat.inputs + i) (gate_at flat.gates i)
+  pub closed : (i : ℕ) → i < length flat.gates
+      → IsClosed needed (length flat.inputs + i) (gate_at flat.gates i)

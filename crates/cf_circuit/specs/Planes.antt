@@ -32,7 +32,8 @@ pub record AreAllPlaces (planes : List (List Cell)) (places : List ℕ) : Type 0
   pub match : (vs : List Bool) → matches_from planes 0 places vs ≡ some_matches planes vs
 
 -- The planes match where, after the input, one of the others does, or one of those that ask for its value.
-pub record AreParted (planes : List (List Cell)) (width input : ℕ) (places zeros ones others : List ℕ) : Type 0 where
+pub record AreParted (planes : List (List Cell)) (width input : ℕ)
+    (places zeros ones others : List ℕ) : Type 0 where
   pub wide_zeros : All (IsWide planes width) zeros
   pub wide_ones : All (IsWide planes width) ones
   pub wide_others : All (IsWide planes width) others

@@ -42,7 +42,8 @@ TellsNot before now a r = (l : ℕ) (x : Test) → Tells before l x a → Tells 
 
 -- where a or b is
 abbrev pub TellsEither : (before now : Package) → (a b : Truth) → Truth → Type 0
-TellsEither before now a b r = (l : ℕ) (x y : Test) → Tells before l x a → Tells before l y b → Tells now l (λ at. x at || y at) r
+TellsEither before now a b r =
+    (l : ℕ) (x y : Test) → Tells before l x a → Tells before l y b → Tells now l (λ at. x at || y at) r
 
 -- where b is, there where a is, and where c is elsewhere
 abbrev pub TellsChoice : (before now : Package) → (a b c : Truth) → Truth → Type 0

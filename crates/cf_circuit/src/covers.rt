@@ -49,7 +49,8 @@ fn of_planes(
     requires fits { length wires.now ≤ width }
     requires wide { All (IsWide planes.now width) places.now }
     requires at { (l : ℕ) × AreWiresAt pkg.old l truths.now wires.now }
-    ensures told { IfOk result (TellsPlanes pkg.old pkg.new planes.now width places.now truths.now wires.now) }
+    ensures told { IfOk result
+        (TellsPlanes pkg.old pkg.new planes.now width places.now truths.now wires.now) }
     ensures kept { Keeps pkg.old pkg.new }
 {
     if places.is_empty() {

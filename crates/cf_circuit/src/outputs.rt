@@ -30,7 +30,8 @@ pub fn build(
     requires one_each { length positions.now ≡ length flat.now.inputs }
     requires within { All (λ i. i < 2 ^ level) positions.now }
     ensures one_each { IfOk result (λ fs. length fs.items ≡ length flat.now.outputs) }
-    ensures functions { IfOk result (λ fs. AreFunctionsOf pkg.new level flat.now positions.now fs.items) }
+    ensures functions { IfOk result (λ fs.
+        AreFunctionsOf pkg.new level flat.now positions.now fs.items) }
     ensures kept { Keeps pkg.old pkg.new }
 {
     let needed = needed_wires(alloc, flat)?;
@@ -58,8 +59,10 @@ fn wires_of(
     requires level { level ≤ 7 }
     requires one_each { length positions.now ≡ length flat.now.inputs }
     requires within { All (λ i. i < 2 ^ level) positions.now }
-    ensures full { IfOk result (λ ts. length ts.items ≡ length flat.now.inputs + length flat.now.gates) }
-    ensures told { IfOk result (λ ts. AreTold pkg.new level (wire_test flat.now positions.now) needed.now ts.items) }
+    ensures full { IfOk result (λ ts.
+        length ts.items ≡ length flat.now.inputs + length flat.now.gates) }
+    ensures told { IfOk result (λ ts.
+        AreTold pkg.new level (wire_test flat.now positions.now) needed.now ts.items) }
     ensures kept { Keeps pkg.old pkg.new }
 {
     let mut truths = Vec::with_capacity(alloc, needed.len())?;

@@ -2,7 +2,8 @@
 
 ghost use Rattle.std.specs.Prelude.{◌≡◌, ◌≤◌, ℕ, IfOk};
 ghost use Rattle.cf_pkg.specs.Packages.{OwnsFunction, Keeps};
-ghost use Rattle.cf_circuit.specs.Truths.{IsAt, AreAt, AreAllAt, TellsNot, TellsEither, TellsChoice, IsOf};
+ghost use Rattle.cf_circuit.specs.Truths.{IsAt, AreAt, AreAllAt};
+ghost use Rattle.cf_circuit.specs.Truths.{TellsNot, TellsEither, TellsChoice, IsOf};
 
 use crate::NoMemory;
 use crate::words::{chosen, joined, negated};

@@ -17,7 +17,8 @@ use std::sync::ledger::{Blank, Ledger};
 /// 1 where f is 0, else 0.
 pub(crate) fn negated(pkg: &mut Pkg, f: Func) -> Result<Func, NoMemory>
     requires owned { OwnsFunction pkg.old f }
-    ensures values { IfOk result (λ r. HasValues pkg.new r f.head.level (map_value pkg.old (of_one Word1.Not) f)) }
+    ensures values { IfOk result (λ r.
+        HasValues pkg.new r f.head.level (map_value pkg.old (of_one Word1.Not) f)) }
     ensures kept { Keeps pkg.old pkg.new }
 {
     match pkg.map_word(Word1::Not, f) {
@@ -31,7 +32,8 @@ pub(crate) fn negated(pkg: &mut Pkg, f: Func) -> Result<Func, NoMemory>
 pub(crate) fn joined(pkg: &mut Pkg, word: Word2, f: Func, g: Func) -> Result<Func, NoMemory>
     requires total { IsTotal word }
     requires level { AreLevel pkg.old f g }
-    ensures values { IfOk result (λ r. HasValues pkg.new r f.head.level (apply_value pkg.old (of_two word) f g)) }
+    ensures values { IfOk result (λ r.
+        HasValues pkg.new r f.head.level (apply_value pkg.old (of_two word) f g)) }
     ensures kept { Keeps pkg.old pkg.new }
 {
     joined_uncounted::<Brand>(pkg, word, f, g, Blank::new(1))
@@ -50,7 +52,8 @@ fn joined_uncounted<L: Ledger>(
     requires name { blank.name ≡ L.name }
     requires parts { blank.parts ≡ L.parts }
     requires some { 0 < blank.parts }
-    ensures values { IfOk result (λ r. HasValues pkg.new r f.head.level (apply_value pkg.old (of_two word) f g)) }
+    ensures values { IfOk result (λ r.
+        HasValues pkg.new r f.head.level (apply_value pkg.old (of_two word) f g)) }
     ensures kept { Keeps pkg.old pkg.new }
 {
     let mut steps = Steps::<L>::open(blank);
@@ -65,7 +68,8 @@ fn joined_uncounted<L: Ledger>(
 pub(crate) fn chosen(pkg: &mut Pkg, f: Func, g: Func, h: Func) -> Result<Func, NoMemory>
     requires level { AreLevel pkg.old f g }
     requires third_level { AreLevel pkg.old f h }
-    ensures values { IfOk result (λ r. HasValues pkg.new r f.head.level (ternary_value pkg.old of_three f g h)) }
+    ensures values { IfOk result (λ r.
+        HasValues pkg.new r f.head.level (ternary_value pkg.old of_three f g h)) }
     ensures kept { Keeps pkg.old pkg.new }
 {
     chosen_uncounted::<Brand>(pkg, f, g, h, Blank::new(1))
@@ -84,7 +88,8 @@ fn chosen_uncounted<L: Ledger>(
     requires name { blank.name ≡ L.name }
     requires parts { blank.parts ≡ L.parts }
     requires some { 0 < blank.parts }
-    ensures values { IfOk result (λ r. HasValues pkg.new r f.head.level (ternary_value pkg.old of_three f g h)) }
+    ensures values { IfOk result (λ r.
+        HasValues pkg.new r f.head.level (ternary_value pkg.old of_three f g h)) }
     ensures kept { Keeps pkg.old pkg.new }
 {
     let mut steps = Steps::<L>::open(blank);
