@@ -1,4 +1,4 @@
-use Rattle.std.proofs.Common.{◌≡◌, zero, suc, ℕ, ◌+◌, ◌-◌, ◌<◌, ◌≤◌, List, [], ◌∷◌, ◌++◌, Option, Some, None, length, get_or, map, refl, sym, ap, ◌∙◌, subst, inl, inr, ◌⊎◌, arith, length-append}
+use Rattle.std.proofs.Common.{◌≡◌, zero, suc, ℕ, ◌+◌, ◌-◌, ◌<◌, ◌≤◌, List, [], ◌∷◌, Some, length, get_or, map, refl, sym, ap, ◌∙◌, subst, inl, inr, arith, length-append}
 use Rattle.std.specs.List.{slice_get, All, Contains}
 use Rattle.std.specs.Prelude.{slice_index}
 use Rattle.std.specs.Option.{option_and_then}
@@ -16,9 +16,9 @@ use Rattle.cf_hierarchy.specs.declared.blocks.Call.{Call}
 use Rattle.cf_hierarchy.specs.declared.blocks.Block.{Block}
 use Rattle.cf_hierarchy.specs.declared.instances.Instance.{Instance}
 use Rattle.cf_hierarchy.specs.Hierarchy.{block_at, IsDriver, IsCall, IsBlock}
-use Rattle.cf_hierarchy.specs.Spreads.{no_block, no_call, instance_at, block_of, formal_node, node_of, nodes_from, copy_at, HasCalls, HasNodes, IsSpread, IsBased, IsAt, IsPlaced, Grown}
+use Rattle.cf_hierarchy.specs.Spreads.{no_block, no_call, instance_at, block_of, formal_node, node_of, nodes_from, copy_at, IsSpread, IsBased, IsAt, Grown}
 use Rattle.cf_hierarchy.proofs.Growth.{blank}
-use Rattle.cf_hierarchy.proofs.SpreadLaws.{Called, called, all_get, is_block, formal_later, spread_value}
+use Rattle.cf_hierarchy.proofs.SpreadLaws.{called, all_get, is_block, formal_later, spread_value}
 use Rattle.cf_hierarchy.proofs.NodeLaws.{has_nodes, is_spread}
 use Rattle.cf_hierarchy.specs.Flattening.{Signal, DriverNeeds, SignalNeeds, SignalChain, HasCycle, IsRootInput, ShowsHierarchy}
 

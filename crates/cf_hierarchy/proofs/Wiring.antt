@@ -1,16 +1,16 @@
-use Rattle.std.proofs.Common.{◌≡◌, ◌≢◌, suc, ℕ, ◌+◌, ◌-◌, ◌<◌, ◌≤◌, List, [], ◌∷◌, ◌++◌, Bool, false, Option, Some, None, length, get_or, set, take, map, refl, sym, ap, ◌∙◌, subst, inl, inr, arith, length-take, length-set}
-use Rattle.std.specs.List.{slice_get, All, Contains}
+use Rattle.std.proofs.Common.{◌≡◌, ℕ, ◌+◌, ◌<◌, ◌≤◌, List, [], ◌∷◌, Bool, false, Option, Some, length, get_or, set, map, refl, sym, ap, ◌∙◌, subst, inl, inr, arith, length-take, length-set}
+use Rattle.std.specs.List.{All, Contains}
 use Rattle.std.specs.Prelude.{slice_index}
 use Rattle.std.specs.Option.{option_map}
 use Rattle.std.proofs.lemmas.Bool.{cases_eq}
 use Rattle.std.proofs.lemmas.List.{get_or_default, get_or-map, get_or-take, get_or-set_same, get_or-set_other, length-map, length_push}
 use Rattle.std.proofs.lemmas.List.Elements.{All-map}
 use Rattle.std.proofs.lemmas.Option.{slice_get-get_or}
-use Rattle.cf_order.specs.Orders.{row, Needs, IsOrder}
+use Rattle.cf_order.specs.Orders.{row, IsOrder}
 use Rattle.cf_hierarchy.specs.declared.gates.Gate.{Gate}
 use Rattle.cf_hierarchy.specs.declared.gates.Node.{Node}
 use Rattle.cf_hierarchy.specs.declared.gates.Node.TheVariants as node
-use Rattle.cf_hierarchy.specs.Circuits.{needs, IsNode, Meaning, all_of, value_at, cval, UsesLower, wire_values, Shows, AddsNode}
+use Rattle.cf_hierarchy.specs.Circuits.{needs, IsNode, Meaning, value_at, cval, UsesLower, wire_values, Shows, AddsNode}
 use Rattle.cf_hierarchy.proofs.Values.{cval_up, cval_step, all_known, UsesLower-push, wire_first, wire_kept, wire_new}
 
 -- the first signals of the order have their wires, and these show them

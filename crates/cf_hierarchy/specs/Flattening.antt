@@ -29,6 +29,12 @@ ShowsHierarchy blocks n gates wires s =
 abbrev pub root_of : List Block → Block
 root_of blocks = slice_index_or blocks 0 no_block
 
+-- The wire of each signal of the first block is an input or a gate's output.
+abbrev pub HaveRootWires : List Block → ℕ → List Gate → List ℕ → Type 0
+HaveRootWires blocks n gates wires =
+    (s : ℕ) → s < length (root_of blocks).drivers
+    → (s < length wires) × (slice_index wires s < n + length gates)
+
 -- The wire of each signal of the first block has its value.
 abbrev pub ShowRoot : List Block → ℕ → List Gate → List ℕ → Type 0
 ShowRoot blocks n gates wires =

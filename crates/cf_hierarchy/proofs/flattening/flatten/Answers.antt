@@ -1,10 +1,11 @@
-use Rattle.std.proofs.Common.{◌≡◌, ◌<◌, ◌≤◌, ℕ, List, length, map, arith, ap, ◌∙◌, subst, sym}
+use Rattle.std.proofs.Common.{◌<◌, List, length, arith, ap, ◌∙◌, subst, sym}
 use Rattle.std.specs.List.{All}
 use Rattle.std.specs.Prelude.{slice_index}
 use Rattle.cf_order.specs.Orders.{IsRing, HasNoRing}
 use Rattle.cf_hierarchy.specs.declared.gates.Node.{Node}
 use Rattle.cf_hierarchy.specs.Circuits.{IsNode, Shows}
 use Rattle.cf_hierarchy.proofs.Signals.{rows_are, rows_below, cycle, no_cycle, nodes_ok, shows_root, root_within}
+use Rattle.cf_hierarchy.proofs.Counting.{few_nodes}
 use Rattle.cf_hierarchy.proofs.flattening.flatten.Goals as goal
 
 pub order_of-requires : goal.order_of-requires
@@ -61,3 +62,21 @@ returns-clause-no_cycle c =
     c.in_ok-spread.spread.end c.requires.blocks c.in_ok-spread.ensures.grown
     c.in_ok-spread.ensures.all
     (subst HasNoRing e c.in-Ok.ensures.no_ring)
+
+pub returns-clause-few : goal.returns-clause-few
+returns-clause-few c =
+    let n = c.as_slice-3.ensures.value ∙ c.in_ok-nodes.ensures in
+    let few = few_nodes c.args.blocks.now c.in_ok-spread.spread.copies c.in_ok-spread.spread.firsts
+    c.in_ok-spread.spread.end c.args.levels c.requires.blocks c.in_ok-spread.ensures.grown
+    c.in_ok-spread.ensures.all c.requires.deep in
+    omega (arith, few, c.in_ok-flat_of.ensures.signals, ap length n)
+
+pub returns-clause-wires : goal.returns-clause-wires
+returns-clause-wires c s h =
+    let n = c.as_slice-3.ensures.value ∙ c.in_ok-nodes.ensures in
+    let w = root_within c.args.blocks.now c.in_ok-spread.spread.copies c.in_ok-spread.spread.firsts
+    c.in_ok-spread.spread.end c.requires.blocks c.in_ok-spread.ensures.grown
+    c.in_ok-spread.ensures.all s h in (
+      omega (arith, w, ap length n, c.in_ok-flat_of.ensures.signals),
+      c.in_ok-flat_of.ensures.wires s (omega (arith, w, ap length n)),
+    )
