@@ -1,0 +1,12 @@
+//! The main laws of the definitions, each on the contract of a function that does nothing.
+
+ghost use Rattle.cf_flat.specs.Named.{BlocksAreLinked, BlocksHaveValues, WiresHaveValues};
+
+/// The blocks of a netlist without faults of names speak of what is there, and none calls itself.
+/// Each signal of them has the value of the netlist's signal; so wires that show the first block
+/// have the values of the root's outputs.
+pub fn names_and_numbers_agree()
+    ensures linked { BlocksAreLinked }
+    ensures values { BlocksHaveValues }
+    ensures wires { WiresHaveValues }
+{}
