@@ -6,3 +6,4 @@ pub mod ValueLaws
 pub mod LinkedBlocks
 pub mod ShowLaws
 pub mod NamedLaws
+pub mod RecursionLaws

@@ -19,21 +19,21 @@ use Rattle.cf_hierarchy.proofs.PathLaws.{block_end}
 use Rattle.cf_hierarchy.proofs.Signals.{Valid, signal_of}
 
 -- the number stands in the list
-abbrev Has : List ℕ → ℕ → Type 0
+abbrev pub Has : List ℕ → ℕ → Type 0
 Has xs n = (i : ℕ) × (slice_get xs i ≡ Some n)
 
 -- the list without the item at a place
-abbrev without : ℕ → List ℕ → List ℕ
+abbrev pub without : ℕ → List ℕ → List ℕ
 without k [] = []
 without zero (x ∷ xs) = xs
 without (suc k) (x ∷ xs) = x ∷ without k xs
 
-length-without : (k : ℕ) (xs : List ℕ) (n : ℕ) → slice_get xs k ≡ Some n → suc (length (without k xs)) ≡ length xs
+pub length-without : (k : ℕ) (xs : List ℕ) (n : ℕ) → slice_get xs k ≡ Some n → suc (length (without k xs)) ≡ length xs
 length-without k [] n h = absurd (cc)
 length-without zero (x ∷ xs) n h = refl
 length-without (suc k) (x ∷ xs) n h = ap suc (length-without k xs n h)
 
-has-without : (k : ℕ) (xs : List ℕ) (n m : ℕ) → slice_get xs k ≡ Some n → (m ≡ n → ⊥) → Has xs m → Has (without k xs) m
+pub has-without : (k : ℕ) (xs : List ℕ) (n m : ℕ) → slice_get xs k ≡ Some n → (m ≡ n → ⊥) → Has xs m → Has (without k xs) m
 has-without k [] n m h other (i, e) = absurd (cc)
 has-without zero (x ∷ xs) n m h other (zero, e) = absurd (other (sym (same_Some x m e) ∙ same_Some x n h))
 has-without zero (x ∷ xs) n m h other (suc i, e) = (i, e)
@@ -52,15 +52,15 @@ covering (suc n) xs h =
     omega (arith, rest, long)
 
 -- n numbers from b on
-abbrev range : ℕ → ℕ → List ℕ
+abbrev pub range : ℕ → ℕ → List ℕ
 range b zero = []
 range b (suc n) = b ∷ range (suc b) n
 
-length-range : (b n : ℕ) → length (range b n) ≡ n
+pub length-range : (b n : ℕ) → length (range b n) ≡ n
 length-range b zero = refl
 length-range b (suc n) = ap suc (length-range (suc b) n)
 
-range-get : (b n s : ℕ) → s < n → slice_get (range b n) s ≡ Some (b + s)
+pub range-get : (b n s : ℕ) → s < n → slice_get (range b n) s ≡ Some (b + s)
 range-get b zero s l = absurd (omega (arith, l))
 range-get b (suc n) zero l = let z : b ≡ b + 0 = omega arith in ap Some z
 range-get b (suc n) (suc s) l =

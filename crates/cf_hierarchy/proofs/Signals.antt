@@ -20,7 +20,7 @@ use Rattle.cf_hierarchy.specs.Spreads.{no_block, no_call, instance_at, block_of,
 use Rattle.cf_hierarchy.proofs.Growth.{blank}
 use Rattle.cf_hierarchy.proofs.SpreadLaws.{called, all_get, is_block, formal_later, spread_value}
 use Rattle.cf_hierarchy.proofs.NodeLaws.{has_nodes, is_spread}
-use Rattle.cf_hierarchy.specs.Flattening.{Signal, DriverNeeds, SignalNeeds, SignalChain, HasCycle, IsRootInput, ShowsHierarchy}
+use Rattle.cf_hierarchy.specs.Flattening.{Signal, DriverNeeds, SignalNeeds, SignalChain, HasCycle, IsRootInput, ShowsHierarchy, HaveValues}
 
 abbrev size : List Block → Instance → ℕ
 size blocks c = length (block_of blocks c).drivers
@@ -468,6 +468,17 @@ module _ (blocks : List Block) (copies : List Instance) (firsts : List ℕ) (end
       h)
       ∙ ap (λ k. cval means nodes bits m k) z
       ∙ shows means bits inputs m (omega (arith, l, long))
+
+  -- every signal of the hierarchy has a value, where every number's wire shows it
+  pub all_known : (n : ℕ) (gates : List Gate) (wires : List ℕ)
+      → ((s : ℕ) → s < length nodes → Shows nodes n gates s (get_or wires s 0))
+      → length nodes ≤ length wires → HaveValues blocks n wires
+  all_known n gates wires shows long means bits inputs m l p b s h below =
+      let w = number_within (record { path = p; at = s }) (b, h, below) in
+      let k = (instance_at copies (copy_at firsts p)).base + s in
+      (_, sym (spread_value means blocks bits copies firsts nodes ok spread
+      (has_nodes blocks copies firsts end grown.based) m p s b h below)
+      ∙ shows k w means bits inputs m (omega (arith, l, long)))
 
   pub root_within : (s : ℕ) → s < length (get_or blocks 0 no_block).drivers → s < length nodes
   root_within s h =

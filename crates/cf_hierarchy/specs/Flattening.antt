@@ -25,6 +25,13 @@ ShowsHierarchy blocks n gates wires s =
     → hval means blocks bits m [] s
     ≡ Some (slice_index_or (wire_values means bits gates) (slice_index wires s) false)
 
+-- Every signal of the hierarchy has a value, from the number of all signals on.
+abbrev pub HaveValues : List Block → ℕ → List ℕ → Type 0
+HaveValues blocks n wires =
+    (means : Meaning) (bits : List Bool) → length bits ≡ n → (m : ℕ) → length wires ≤ m
+    → (p : List ℕ) (b : Block) (s : ℕ) → block_at blocks p ≡ Some b → s < length b.drivers
+    → (value : Bool) × (hval means blocks bits m p s ≡ Some value)
+
 -- the first block
 abbrev pub root_of : List Block → Block
 root_of blocks = slice_index_or blocks 0 no_block

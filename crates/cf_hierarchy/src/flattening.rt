@@ -6,7 +6,7 @@ ghost use Rattle.cf_hierarchy.specs.Circuits.{UsesLower, needs};
 ghost use Rattle.cf_hierarchy.specs.Hierarchy.{IsBlock};
 ghost use Rattle.cf_hierarchy.specs.Spreads.{IsAtMostDeep};
 ghost use Rattle.cf_hierarchy.specs.declared.flattening.FlatFault.{FlatFault};
-ghost use Rattle.cf_hierarchy.specs.Flattening.{HaveRootWires, IsRootInput, root_of, ShowRoot, IsCycle, HasCycle};
+ghost use Rattle.cf_hierarchy.specs.Flattening.{HaveRootWires, HaveValues, IsRootInput, root_of, ShowRoot, IsCycle, HasCycle};
 ghost use Rattle.cf_hierarchy.specs.Links.{signals_within};
 
 use crate::NoMemory;
@@ -48,6 +48,7 @@ pub fn flatten(alloc: Global, blocks: &[Block], inputs: u64, levels: u64) -> Res
     ensures few { IfOk result (λ flat. length flat.wires ≤ signals_within blocks.now levels) }
     ensures wires { IfOk result (λ flat.
         HaveRootWires blocks.now inputs flat.gates flat.wires) }
+    ensures known { IfOk result (λ flat. HaveValues blocks.now inputs flat.wires) }
     ensures shows { IfOk result (λ flat. ShowRoot blocks.now inputs flat.gates flat.wires) }
     ensures no_cycle { IfOk result (λ _. HasCycle blocks.now → ⊥) }
     ensures cycle { IfErr result (IsCycle blocks.now) }

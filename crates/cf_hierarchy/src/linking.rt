@@ -5,7 +5,7 @@ ghost use Rattle.std.specs.Prelude.{◌≡◌, ℕ, ◌+◌, ◌<◌, ◌≤◌,
 ghost use Rattle.cf_order.specs.Orders.{HasNoRing};
 ghost use Rattle.cf_hierarchy.specs.Hierarchy.{IsBlock};
 ghost use Rattle.cf_hierarchy.specs.Circuits.{UsesLower};
-ghost use Rattle.cf_hierarchy.specs.Flattening.{HaveRootWires, IsRootInput, root_of, ShowRoot};
+ghost use Rattle.cf_hierarchy.specs.Flattening.{HaveRootWires, HaveValues, IsRootInput, root_of, ShowRoot};
 ghost use Rattle.cf_hierarchy.specs.Links.{called, calls, signals_within, HasNoFault, HasFault};
 
 use crate::NoMemory;
@@ -61,6 +61,7 @@ pub fn link(
     ensures few { IfOk result (λ flat. length flat.wires ≤ signals_within blocks.now 64) }
     ensures wires { IfOk result (λ flat.
         HaveRootWires blocks.now inputs flat.gates flat.wires) }
+    ensures known { IfOk result (λ flat. HaveValues blocks.now inputs flat.wires) }
     ensures shows { IfOk result (λ flat. ShowRoot blocks.now inputs flat.gates flat.wires) }
     ensures no_fault { IfOk result (λ _. HasNoFault blocks.now weights.now) }
     ensures fault { IfErr result (HasFault blocks.now weights.now) }

@@ -14,14 +14,14 @@ use std::marker::Model;
 
 /// The formals of a model.
 #[derive(Drop)]
-pub(crate) struct Listed {
+pub struct Listed {
     pub inputs: NameBook,
     pub outputs: NameBook,
 }
 
 /// The models of a netlist, found by their names, with their inputs and outputs.
 #[derive(Drop)]
-pub(crate) struct Directory<'a> {
+pub struct Directory<'a> {
     models: &'a [ModelDef],
     names: NameBook,
     formals: Vec<Listed>,

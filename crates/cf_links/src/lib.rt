@@ -8,7 +8,7 @@ ghost use Rattle.cf_circuits.specs.LinkFaults.{fault_of_names};
 ghost use Rattle.cf_links.specs.Faults.{HasNoNameFault, IsNameFault};
 
 mod calls;
-mod directory;
+pub mod directory;
 mod kinds;
 mod parts;
 mod recursion;

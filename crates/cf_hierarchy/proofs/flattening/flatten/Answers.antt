@@ -4,7 +4,7 @@ use Rattle.std.specs.Prelude.{slice_index}
 use Rattle.cf_order.specs.Orders.{IsRing, HasNoRing}
 use Rattle.cf_hierarchy.specs.declared.gates.Node.{Node}
 use Rattle.cf_hierarchy.specs.Circuits.{IsNode, Shows}
-use Rattle.cf_hierarchy.proofs.Signals.{rows_are, rows_below, cycle, no_cycle, nodes_ok, shows_root, root_within}
+use Rattle.cf_hierarchy.proofs.Signals.{rows_are, rows_below, cycle, no_cycle, nodes_ok, shows_root, all_known, root_within}
 use Rattle.cf_hierarchy.proofs.Counting.{few_nodes}
 use Rattle.cf_hierarchy.proofs.flattening.flatten.Goals as goal
 
@@ -80,3 +80,15 @@ returns-clause-wires c s h =
       omega (arith, w, ap length n, c.in_ok-flat_of.ensures.signals),
       c.in_ok-flat_of.ensures.wires s (omega (arith, w, ap length n)),
     )
+
+pub returns-clause-known : goal.returns-clause-known
+returns-clause-known c =
+    let n = c.as_slice-3.ensures.value ∙ c.in_ok-nodes.ensures in
+    let wires = c.in_ok-flat_of.field-0.wires in
+    let gates = c.in_ok-flat_of.field-0.gates in
+    all_known c.args.blocks.now c.in_ok-spread.spread.copies c.in_ok-spread.spread.firsts
+    c.in_ok-spread.spread.end c.requires.blocks c.in_ok-spread.ensures.grown
+    c.in_ok-spread.ensures.all c.args.inputs gates wires
+    (λ s h. subst (λ (ns : List Node). Shows ns c.args.inputs gates s (slice_index wires s)) n
+    (c.in_ok-flat_of.ensures.shows s (omega (arith, h, ap length n))))
+    (omega (arith, c.in_ok-flat_of.ensures.signals, ap length n))
