@@ -7,3 +7,6 @@ pub mod LinkedBlocks
 pub mod ShowLaws
 pub mod NamedLaws
 pub mod RecursionLaws
+pub mod LinkLaws
+pub mod CycleLaws
+pub mod KindLaws

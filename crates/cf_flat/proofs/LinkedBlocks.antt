@@ -206,7 +206,7 @@ drivers-length models m c d =
       made-length models m d m.gates,
     )
 
-signals-length : (models : List ModelDef) (k : ℕ) (m : ModelDef) (cover : ℕ) → slice_get models k ≡ Some m
+pub signals-length : (models : List ModelDef) (k : ℕ) (m : ModelDef) (cover : ℕ) → slice_get models k ≡ Some m
     → length (drivers_of models cover m) ≡ length (signals models m)
 signals-length models k m cover h =
     let same = ap length (drives-signals models m) in

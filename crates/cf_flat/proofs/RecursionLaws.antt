@@ -73,18 +73,18 @@ Apart [] = Unit {0}
 Apart (x ∷ xs) = (Has xs x → ⊥) × Apart xs
 
 find : (x : ℕ) (xs : List ℕ) → Has xs x ⊎ (Has xs x → ⊥)
-find x [] = inr (λ h. let no : ⊥ = cc (h.1) in no)
+find x [] = inr (λ h. let none : ⊥ = cc (h.1) in none)
 find x (y ∷ xs) = elim (cases_eq y x) [
   | inl e ↦ inl (0, ap Some e)
   | inr ne ↦ elim (find x xs) [
     | inl h ↦ inl (suc h.0, h.1)
-    | inr no ↦ inr (λ h. other h.0 h.1 ne no)
+    | inr lacks ↦ inr (λ h. other h.0 h.1 ne lacks)
   ]
 ]
   where
     other : (k : ℕ) → slice_get (y ∷ xs) k ≡ Some x → (y ≡ x → ⊥) → (Has xs x → ⊥) → ⊥
-    other zero e ne no = ne (same_Some y x e)
-    other (suc k) e ne no = no (k, e)
+    other zero e ne lacks = ne (same_Some y x e)
+    other (suc k) e ne lacks = lacks (k, e)
 
 -- A chain without detours.
 record Straight (rows : List (List ℕ)) (a b : ℕ) : Type 0 where
@@ -100,12 +100,12 @@ cut rows c [] a b (suc i) h apart e = cc
 cut rows c (d ∷ ds) a b (suc i) h apart e = cut rows d ds a b i h.1 apart.1 e
 
 straight : (rows : List (List ℕ)) (a : ℕ) (rest : List ℕ) (b : ℕ) → Chain rows a rest b → Straight rows a b
-straight rows a [] b h = record { rest = []; chain = h; apart = ((λ h. let no : ⊥ = cc (h.1) in no), tt) }
+straight rows a [] b h = record { rest = []; chain = h; apart = ((λ h. let none : ⊥ = cc (h.1) in none), tt) }
 straight rows a (c ∷ cs) b h =
     let s = straight rows c cs b h.1 in
     elim (find a (c ∷ s.rest)) [
       | inl at ↦ cut rows c s.rest a b at.0 s.chain s.apart at.1
-      | inr no ↦ record { rest = c ∷ s.rest; chain = (h.0, s.chain); apart = (no, s.apart) }
+      | inr lacks ↦ record { rest = c ∷ s.rest; chain = (h.0, s.chain); apart = (lacks, s.apart) }
     ]
 
 -- items that are all there, none twice, are no more than all
@@ -114,7 +114,7 @@ fits [] ys apart h = omega arith
 fits (x ∷ xs) ys apart h =
     let at = h x (0, refl) in
     let rest = fits xs (without at.0 ys) apart.1
-            (λ y has. has-without at.0 ys x y at.1 (λ e. apart.0 (subst (Has xs) e has)) (h y (suc has.0, has.1))) in
+    (λ y has. has-without at.0 ys x y at.1 (λ e. apart.0 (subst (Has xs) e has)) (h y (suc has.0, has.1))) in
     let long = length-without at.0 ys x at.1 in
     omega (arith, rest, long)
 
@@ -157,10 +157,10 @@ pub ring-recursive : (rows : List (List ℕ)) (m : ℕ) → IsOnRing rows m → 
 ring-recursive rows m (rest, h) =
     let s = straight rows m rest m h in
     let few = fits (m ∷ s.rest) (range 0 (length rows)) s.apart
-            (λ x has.
-            let within = chain-within rows m s.rest m x has.0 s.chain has.1 in
-            let z : 0 + x ≡ x = omega arith in
-            (x, range-get 0 (length rows) x within ∙ ap Some z)) in
+    (λ x has.
+    let within = chain-within rows m s.rest m x has.0 s.chain has.1 in
+    let z : 0 + x ≡ x = omega arith in
+    (x, range-get 0 (length rows) x within ∙ ap Some z)) in
     let long = length-range 0 (length rows) in
     let calls = leads rows m s.rest m s.chain in
     let same = calls.long in
