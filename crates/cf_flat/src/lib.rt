@@ -1,6 +1,7 @@
 //! The flat circuit of a netlist, or the first fault of its links.
 #![tactic(auto)]
 
+pub mod flat;
 pub mod laws;
 
 /// There was no memory.
