@@ -1,4 +1,4 @@
-use Rattle.std.specs.Prelude.{ℕ, suc, ◌+◌, List, [], ◌∷◌, ◌++◌, length, map, Option, Some, None, if◌then◌else◌, Bool}
+use Rattle.std.specs.Prelude.{ℕ, suc, ◌+◌, List, [], ◌∷◌, ◌++◌, length, map, if◌then◌else◌, Bool}
 use Rattle.std.specs.Option.{unwrap_or}
 use Rattle.std.specs.Str.{bytes_eq}
 use Rattle.cf_model.specs.Renumbering.{place}
@@ -8,7 +8,7 @@ use Rattle.cf_circuits.specs.declared.pins.Pin.{Pin}
 use Rattle.cf_circuits.specs.declared.pins.Call as named
 use Rattle.cf_circuits.specs.declared.models.ModelDef.{ModelDef}
 use Rattle.cf_circuits.specs.Links.{gathered, names_of, callee, is_output}
-use Rattle.cf_circuits.specs.Expansions.{signals, actual_for}
+use Rattle.cf_circuits.specs.Expansions.{actual_for, signals}
 use Rattle.cf_hierarchy.specs.declared.gates.Gate.{Gate}
 use Rattle.cf_hierarchy.specs.declared.blocks.Driver.{Driver}
 use Rattle.cf_hierarchy.specs.declared.blocks.Driver.TheVariants.{Formal, Made, Back}
@@ -21,7 +21,7 @@ use Rattle.cf_hierarchy.specs.declared.blocks.Block.{Block}
 abbrev pub number : List ModelDef → ModelDef → List ℕ → ℕ
 number models m name = place bytes_eq (signals models m) name
 
--- the actual of a formal
+-- the actual of a formal, where there is one
 abbrev pub actual_of : List Pin → List ℕ → List ℕ
 actual_of pins name = unwrap_or (actual_for pins name) []
 

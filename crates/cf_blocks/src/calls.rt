@@ -69,11 +69,11 @@ fn actuals_of(
 {
     let pins = call.pins.items();
     let book = formals_of(alloc, pins)?;
-    let mut wires = Wires::new(alloc);
+    let mut wires = Vec::with_capacity(alloc, names.len())?;
     for name in names {
         wires.push(numbers.number(at, actual_of(&book, pins, name.bytes())))?;
     }
-    Ok(wires)
+    Ok(Wires::of(wires))
 }
 
 /// A book of formals that differ.

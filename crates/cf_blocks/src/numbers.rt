@@ -96,10 +96,10 @@ impl<'a> Numbers<'a> {
         ensures { IfOk result (λ wires. wires
             ≡ map (number_of self.now (slice_index_or self.now model no_model)) names.now) }
     {
-        let mut wires = Wires::new(alloc);
+        let mut wires = Vec::with_capacity(alloc, names.len())?;
         for name in names {
             wires.push(self.number(model, name.bytes()))?;
         }
-        Ok(wires)
+        Ok(Wires::of(wires))
     }
 }

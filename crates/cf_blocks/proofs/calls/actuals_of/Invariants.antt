@@ -5,4 +5,4 @@ use Rattle.cf_blocks.proofs.calls.actuals_of.Given as goal
 
 abbrev pub invariant-loop-name : goal.invariant-loop-name
 invariant-loop-name l =
-    l.wires ≡ map (λ name. number l.numbers (get_or l.numbers l.at no_model) (actual_of l.call.pins name)) (take l.name-index l.names)
+    l.wires.items ≡ map (λ name. number l.numbers (get_or l.numbers l.at no_model) (actual_of l.call.pins name)) (take l.name-index l.names)

@@ -4,4 +4,4 @@ use Rattle.cf_blocks.specs.Numbering.{number}
 use Rattle.cf_blocks.proofs.numbers.Numbers.number_all.Given as goal
 
 abbrev pub invariant-loop-name : goal.invariant-loop-name
-invariant-loop-name l = l.wires ≡ map (number l.self (get_or l.self l.model no_model)) (take l.name-index l.names)
+invariant-loop-name l = l.wires.items ≡ map (number l.self (get_or l.self l.model no_model)) (take l.name-index l.names)
