@@ -25,6 +25,17 @@ ShowsHierarchy blocks n gates wires s =
     → hval means blocks bits m [] s
     ≡ Some (slice_index_or (wire_values means bits gates) (slice_index wires s) false)
 
+-- The gate is that of a block: it has the cover, over as many wires.
+pub record IsGateIn (blocks : List Block) (g : Gate) : Type 0 where
+  pub path : List ℕ
+  pub block : Block
+  pub signal : ℕ
+  pub made : Gate
+  pub at : block_at blocks path ≡ Some block
+  pub there : slice_get block.drivers signal ≡ Some (driver.Made made)
+  pub cover : g.cover ≡ made.cover
+  pub ins : length g.ins ≡ length made.ins
+
 -- Every signal of the hierarchy has a value, from the number of all signals on.
 abbrev pub HaveValues : List Block → ℕ → List ℕ → Type 0
 HaveValues blocks n wires =

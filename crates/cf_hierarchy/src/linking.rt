@@ -5,7 +5,7 @@ ghost use Rattle.std.specs.Prelude.{◌≡◌, ℕ, ◌+◌, ◌<◌, ◌≤◌,
 ghost use Rattle.cf_order.specs.Orders.{HasNoRing};
 ghost use Rattle.cf_hierarchy.specs.Hierarchy.{IsBlock};
 ghost use Rattle.cf_hierarchy.specs.Circuits.{UsesLower};
-ghost use Rattle.cf_hierarchy.specs.Flattening.{HaveRootWires, HaveValues, IsRootInput, root_of, ShowRoot};
+ghost use Rattle.cf_hierarchy.specs.Flattening.{HaveRootWires, HaveValues, IsGateIn, IsRootInput, root_of, ShowRoot};
 ghost use Rattle.cf_hierarchy.specs.Links.{called, calls, signals_within, HasNoFault, HasFault};
 
 use crate::NoMemory;
@@ -58,6 +58,7 @@ pub fn link(
     requires room { length blocks.now < 2 ^ 62 }
     requires not_recursive { HasNoRing (calls blocks.now) }
     ensures lower { IfOk result (λ flat. UsesLower inputs flat.gates) }
+    ensures made { IfOk result (λ flat. All (IsGateIn blocks.now) flat.gates) }
     ensures few { IfOk result (λ flat. length flat.wires ≤ signals_within blocks.now 64) }
     ensures wires { IfOk result (λ flat.
         HaveRootWires blocks.now inputs flat.gates flat.wires) }

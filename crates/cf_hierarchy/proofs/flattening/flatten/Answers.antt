@@ -1,10 +1,10 @@
-use Rattle.std.proofs.Common.{◌<◌, List, length, arith, ap, ◌∙◌, subst, sym}
+use Rattle.std.proofs.Common.{get_or, ◌<◌, List, length, arith, ap, ◌∙◌, subst, sym}
 use Rattle.std.specs.List.{All}
 use Rattle.std.specs.Prelude.{slice_index}
 use Rattle.cf_order.specs.Orders.{IsRing, HasNoRing}
 use Rattle.cf_hierarchy.specs.declared.gates.Node.{Node}
-use Rattle.cf_hierarchy.specs.Circuits.{IsNode, Shows}
-use Rattle.cf_hierarchy.proofs.Signals.{rows_are, rows_below, cycle, no_cycle, nodes_ok, shows_root, all_known, root_within}
+use Rattle.cf_hierarchy.specs.Circuits.{IsNode, IsGateOf, Shows}
+use Rattle.cf_hierarchy.proofs.Signals.{rows_are, rows_below, cycle, no_cycle, nodes_ok, shows_root, gate_in, all_known, root_within}
 use Rattle.cf_hierarchy.proofs.Counting.{few_nodes}
 use Rattle.cf_hierarchy.proofs.flattening.flatten.Goals as goal
 
@@ -92,3 +92,12 @@ returns-clause-known c =
     (λ s h. subst (λ (ns : List Node). Shows ns c.args.inputs gates s (slice_index wires s)) n
     (c.in_ok-flat_of.ensures.shows s (omega (arith, h, ap length n))))
     (omega (arith, c.in_ok-flat_of.ensures.signals, ap length n))
+
+pub returns-clause-made : goal.returns-clause-made
+returns-clause-made c k d l =
+    let n = c.as_slice-3.ensures.value ∙ c.in_ok-nodes.ensures in
+    gate_in c.args.blocks.now c.in_ok-spread.spread.copies c.in_ok-spread.spread.firsts
+    c.in_ok-spread.spread.end c.requires.blocks c.in_ok-spread.ensures.grown
+    c.in_ok-spread.ensures.all _
+    (subst (λ (ns : List Node). IsGateOf ns (get_or c.in_ok-flat_of.field-0.gates k d)) n
+    (c.in_ok-flat_of.ensures.made k d l))
