@@ -108,7 +108,7 @@ module _ (means : Meaning) (blocks : List Block) (bits : List Bool) where
       ∙ needs-none m x.path n.driver next.0 n.needs (ring-none m next.0 next.2)
 
 -- a block at the end of a chain is that of a model
-model-end : (models : List ModelDef) (chain : List ℕ) (b : Block) → block_at (blocks_of models) chain ≡ Some b
+pub model-end : (models : List ModelDef) (chain : List ℕ) (b : Block) → block_at (blocks_of models) chain ≡ Some b
     → (m : ModelDef) × (model_at models chain ≡ Some m)
 model-end models [] b h = let m = model-of models 0 b h in (m.0, m.1)
 model-end models (j ∷ chain) b h =

@@ -10,3 +10,4 @@ pub mod RecursionLaws
 pub mod LinkLaws
 pub mod CycleLaws
 pub mod KindLaws
+pub mod GateFacts
