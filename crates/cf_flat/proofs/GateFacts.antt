@@ -16,15 +16,11 @@ use Rattle.cf_hierarchy.specs.Flattening.{IsGateIn}
 use Rattle.cf_hierarchy.proofs.SpreadLaws.{all_get}
 use Rattle.cf_blocks.specs.Numbering.{number, covers_of, block_of, blocks_of, drivers_of, gate_of}
 use Rattle.cf_flat.specs.Flats.{cover_at, no_cover}
+use Rattle.cf_flat.specs.Gates.{HasCover, GatesHaveCovers}
 use Rattle.cf_flat.proofs.DriverLaws.{Suits, align-back}
 use Rattle.cf_flat.proofs.BlockLaws.{ends, aligned-at}
 use Rattle.cf_flat.proofs.BlockLaws as places
 use Rattle.cf_flat.proofs.CycleLaws.{model-end}
-
--- The cover is there, and each of its planes has a cell for each input.
-pub record HasCover (models : List ModelDef) (g : Gate) : Type 0 where
-  pub there : g.cover < length (covers_of models)
-  pub cells : All (λ plane. length plane ≡ length g.ins) (cover_at (covers_of models) g.cover).planes
 
 of-source : (models : List ModelDef) (m : ModelDef) (i : ℕ) (g made : Gate) (name : List ℕ) (s : Source) → IsModel m
     → Suits models m i (Made made) name s → g.cover ≡ made.cover → length g.ins ≡ length made.ins → HasCover models g
@@ -56,3 +52,6 @@ has-cover models g net is =
     (aligned-at models e.at m e.is_at)
     (ap (λ (b : Block). slice_get b.drivers is.signal) (sym same) ∙ is.there) in
     of-source models m (0 + is.signal) g is.made r.0.signal r.0.by (all_get IsModel models e.at m net.kept e.is_at) r.2 is.cover is.ins
+
+pub gates-covers : GatesHaveCovers
+gates-covers models g net is = has-cover models g net is

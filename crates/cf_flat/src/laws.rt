@@ -1,5 +1,6 @@
 //! The main laws of the definitions, each on the contract of a function that does nothing.
 
+ghost use Rattle.cf_flat.specs.Gates.{GatesHaveCovers};
 ghost use Rattle.cf_flat.specs.Kinds.{BlockFaultsAreFirst, FaultlessNetlists, NameFaultsAreFirst};
 ghost use Rattle.cf_flat.specs.Named.{BlocksAreLinked, BlocksHaveValues, WiresHaveValues};
 
@@ -18,4 +19,9 @@ pub fn faults_agree()
     ensures names { NameFaultsAreFirst }
     ensures blocks { BlockFaultsAreFirst }
     ensures none { FaultlessNetlists }
+{}
+
+/// A gate of a netlist's blocks has a cover of the netlist, with a cell for each wire that it reads.
+pub fn gates_have_covers()
+    ensures { GatesHaveCovers }
 {}
