@@ -9,7 +9,8 @@ use Rattle.cf_circuits.specs.declared.pins.Call as named
 use Rattle.cf_circuits.specs.declared.models.ModelDef.{ModelDef}
 use Rattle.cf_hierarchy.specs.declared.blocks.Driver.TheVariants.{Formal, Made, Back}
 use Rattle.cf_circuits.specs.Expansions.{signals}
-use Rattle.cf_blocks.specs.Numbering.{number, actual_of, drivers_of, call_of, blocks_of, weights_of, covers_of}
+use Rattle.cf_circuits.specs.LinkFaults.{weights_of}
+use Rattle.cf_blocks.specs.Numbering.{number, actual_of, drivers_of, call_of, blocks_of, covers_of}
 
 abbrev conjunction : Cover
 conjunction = record { on = true; planes = (One ∷ One ∷ []) ∷ [] }

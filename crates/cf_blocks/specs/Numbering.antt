@@ -85,7 +85,3 @@ blocks_of models = blocks_from models 0 models
 -- the covers by their numbers: those of all gates, model after model
 abbrev pub covers_of : List ModelDef → List Cover
 covers_of models = gathered (λ m. map (λ g. g.cover) m.gates) models
-
--- how many gates and calls each model has
-abbrev pub weights_of : List ModelDef → List ℕ
-weights_of models = map (λ m. length m.gates + length m.calls) models

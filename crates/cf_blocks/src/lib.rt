@@ -4,8 +4,9 @@
 ghost use Rattle.std.specs.Prelude.{◌≡◌, ◌<◌, All, length, slice_index_or, IfOk};
 ghost use Rattle.cf_circuits.specs.Kept.{IsCall, IsNetlist};
 ghost use Rattle.cf_circuits.specs.Links.{no_model};
+ghost use Rattle.cf_circuits.specs.LinkFaults.{weights_of as weights};
 ghost use Rattle.cf_links.specs.Faults.{HasNoNameFault};
-ghost use Rattle.cf_blocks.specs.Numbering.{block_of as numbered, blocks_of as all_numbered, weights_of as weights};
+ghost use Rattle.cf_blocks.specs.Numbering.{block_of as numbered, blocks_of as all_numbered};
 
 mod books;
 mod calls;

@@ -1,0 +1,13 @@
+pub mod CountLaws
+pub mod NameFacts
+pub mod DriverLaws
+pub mod BlockLaws
+pub mod ValueLaws
+pub mod LinkedBlocks
+pub mod ShowLaws
+pub mod NamedLaws
+pub mod RecursionLaws
+pub mod LinkLaws
+pub mod CycleLaws
+pub mod KindLaws
+pub mod GateFacts

@@ -12,13 +12,12 @@ no_cover = record { on = true; planes = [] }
 abbrev pub cover_at : List Cover → ℕ → Cover
 cover_at covers place = slice_index_or covers place no_cover
 
--- Each gate reads lower wires only, its cover is there, each plane of it has a cell for each wire that the gate
--- reads, and each output has a wire of the circuit.
+-- Each gate reads lower wires only, its cover is there, each plane of it has a cell for each wire that the gate reads, and
+-- each output has a wire of the circuit.
 pub record IsFlat (flat : Flat) : Type 0 where
   pub lower : UsesLower (length flat.inputs) flat.gates
   pub covers : All (λ g. g.cover < length flat.covers) flat.gates
-  pub cells : All (λ g. All (λ plane. length plane ≡ length g.ins) (cover_at flat.covers g.cover).planes)
-      flat.gates
+  pub cells : All (λ g. All (λ plane. length plane ≡ length g.ins) (cover_at flat.covers g.cover).planes) flat.gates
   pub wires : All (λ out. out.wire < length flat.inputs + length flat.gates) flat.outputs
 
 -- what covers give on values, by their places

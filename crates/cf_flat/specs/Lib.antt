@@ -1,1 +1,4 @@
 pub mod Flats
+pub mod Gates
+pub mod Kinds
+pub mod Named

@@ -9,8 +9,8 @@ use cf_names::{Name, Names};
 use std::alloc::Global;
 use std::marker::Model;
 
-/// A circuit in which each gate reads lower wires only. Wire w is input w, or gate w less the
-/// number of inputs.
+/// A circuit in which each gate reads lower wires only. Wire w is input w, or gate w less the number
+/// of inputs.
 #[derive(Drop)]
 pub struct Flat {
     pub inputs: Names,

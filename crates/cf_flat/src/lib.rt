@@ -1,7 +1,8 @@
-//! Flat circuits: inputs, gates over lower wires, and outputs.
+//! The flat circuit of a netlist, or the first fault of its links.
 #![tactic(auto)]
 
 pub mod flat;
+pub mod laws;
 
 /// There was no memory.
 pub type NoMemory = std::alloc::AllocError;

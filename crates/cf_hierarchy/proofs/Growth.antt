@@ -1,15 +1,15 @@
-use Rattle.std.proofs.Common.{◌≡◌, zero, suc, ℕ, ◌+◌, ◌-◌, ◌<◌, ◌≤◌, List, [], ◌∷◌, ◌++◌, Option, Some, None, length, get_or, refl, sym, ap, ◌∙◌, subst, inl, inr, ◌⊎◌, arith, length-append}
+use Rattle.std.proofs.Common.{◌≡◌, zero, suc, ℕ, ◌+◌, ◌-◌, ◌<◌, ◌≤◌, List, [], ◌∷◌, ◌++◌, Some, length, get_or, refl, sym, ap, ◌∙◌, subst, inl, inr, arith, length-append}
 use Rattle.std.specs.List.{slice_get, All}
 use Rattle.std.specs.Prelude.{slice_index}
 use Rattle.std.specs.Option.{option_and_then}
-use Rattle.std.proofs.lemmas.Bool.{cases_lt, cases_eq}
+use Rattle.std.proofs.lemmas.Bool.{cases_lt}
 use Rattle.std.proofs.lemmas.List.{get_or_append_left, get_or-append-add, get_or_push, length_push}
 use Rattle.std.proofs.lemmas.Option.{slice_get_within, get_or_from_slice_get, slice_get-get_or}
 use Rattle.cf_hierarchy.specs.declared.blocks.Call.{Call}
 use Rattle.cf_hierarchy.specs.declared.blocks.Block.{Block}
 use Rattle.cf_hierarchy.specs.declared.instances.Instance.{Instance}
-use Rattle.cf_hierarchy.specs.Hierarchy.{block_at, IsCall, IsBlock}
-use Rattle.cf_hierarchy.specs.Spreads.{no_block, no_call, instance_at, block_of, copy_at, HasCalls, IsSpread, made, made_end, IsAtMostDeep, IsBased, IsAt, IsPlaced, Grown}
+use Rattle.cf_hierarchy.specs.Hierarchy.{IsBlock}
+use Rattle.cf_hierarchy.specs.Spreads.{no_block, no_call, instance_at, block_of, made, made_end, IsAtMostDeep, IsBased, IsAt, IsPlaced, Grown}
 
 abbrev pub blank : Instance
 blank = record { block = 0; parent = 0; place = 0; base = 0 }

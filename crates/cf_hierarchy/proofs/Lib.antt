@@ -6,3 +6,4 @@ pub mod NodeLaws
 pub mod SpreadLaws
 pub mod Signals
 pub mod PathLaws
+pub mod Counting

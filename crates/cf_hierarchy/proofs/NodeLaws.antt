@@ -1,9 +1,8 @@
-use Rattle.std.proofs.Common.{◌≡◌, zero, suc, ℕ, ◌+◌, ◌-◌, ◌<◌, ◌≤◌, List, [], ◌∷◌, ◌++◌, Option, Some, None, length, get_or, drop, map, refl, sym, ap, ◌∙◌, subst, inl, inr, ◌⊎◌, arith, length-append, append_assoc}
-use Rattle.std.specs.List.{slice_get, All, Contains}
+use Rattle.std.proofs.Common.{◌≡◌, zero, suc, ℕ, ◌+◌, ◌<◌, ◌≤◌, List, [], ◌∷◌, ◌++◌, Some, length, get_or, drop, map, sym, ap, ◌∙◌, subst, arith, append_assoc}
+use Rattle.std.specs.List.{slice_get, All}
 use Rattle.std.specs.Prelude.{slice_index}
 use Rattle.std.specs.Option.{option_map}
-use Rattle.std.proofs.lemmas.Bool.{cases_lt, cases_eq}
-use Rattle.std.proofs.lemmas.List.{get_or_append_left, get_or-append-add, drop_more, length-map, get_or_read}
+use Rattle.std.proofs.lemmas.List.{drop_more, length-map, get_or_read}
 use Rattle.std.proofs.lemmas.Option.{slice_get_within, get_or_from_slice_get, slice_get-get_or, slice_get-map}
 use Rattle.cf_hierarchy.specs.declared.gates.Node.{Node}
 use Rattle.cf_hierarchy.specs.declared.blocks.Driver.{Driver}
@@ -11,8 +10,8 @@ use Rattle.cf_hierarchy.specs.declared.blocks.Driver.TheVariants as driver
 use Rattle.cf_hierarchy.specs.declared.blocks.Call.{Call}
 use Rattle.cf_hierarchy.specs.declared.blocks.Block.{Block}
 use Rattle.cf_hierarchy.specs.declared.instances.Instance.{Instance}
-use Rattle.cf_hierarchy.specs.Hierarchy.{block_at, IsCall, IsBlock, IsDriver}
-use Rattle.cf_hierarchy.specs.Spreads.{no_block, no_call, instance_at, block_of, node_of, nodes_from, HasCalls, HasNodes, IsSpread, IsBased, IsReached, Grown}
+use Rattle.cf_hierarchy.specs.Hierarchy.{IsBlock, IsDriver}
+use Rattle.cf_hierarchy.specs.Spreads.{no_block, no_call, instance_at, block_of, node_of, nodes_from, HasNodes, IsSpread, IsBased, IsReached, Grown}
 use Rattle.cf_hierarchy.proofs.Growth.{blank}
 
 pub slice_get_left : {A : Type 0} (xs ys : List A) (i : ℕ) (x : A) → slice_get xs i ≡ Some x

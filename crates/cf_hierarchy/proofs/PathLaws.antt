@@ -1,11 +1,11 @@
-use Rattle.std.proofs.Common.{◌≡◌, zero, suc, ℕ, ◌+◌, ◌-◌, ◌<◌, ◌≤◌, List, [], ◌∷◌, ◌++◌, Option, Some, None, length, get_or, map, reverse, min, refl, sym, ap, ◌∙◌, subst, inl, inr, ◌⊎◌, arith}
+use Rattle.std.proofs.Common.{◌≡◌, ℕ, ◌+◌, ◌<◌, ◌≤◌, List, [], ◌∷◌, ◌++◌, Option, Some, None, length, get_or, reverse, min, refl, sym, ap, ◌∙◌, subst, inl, inr, arith}
 use Rattle.std.specs.List.{slice_get, All}
 use Rattle.std.specs.Option.{option_map, option_and_then}
 use Rattle.std.proofs.lemmas.Bool.{cases_lt}
 use Rattle.std.proofs.lemmas.List.{get_or-map, get_or_past, reverse-append, reverse-reverse, length-reverse, length-map}
 use Rattle.std.proofs.lemmas.Option.{slice_get_within, slice_get_past, get_or_from_slice_get, slice_get-get_or, slice_get-map}
 use Rattle.cf_order.specs.Orders.{row}
-use Rattle.cf_order.specs.Chains.{end_of, IsChain, IsLongest, total}
+use Rattle.cf_order.specs.Chains.{end_of, IsLongest, total}
 use Rattle.cf_hierarchy.specs.declared.blocks.Call.{Call}
 use Rattle.cf_hierarchy.specs.declared.blocks.Block.{Block}
 use Rattle.cf_hierarchy.specs.Hierarchy.{block_at, IsBlock}
@@ -67,7 +67,7 @@ step blocks j e = elim (cases_lt e (length blocks)) [
 ]
 
 -- a path with its last call first, and the chain with its first call first
-block_end : (blocks : List Block) (p : List ℕ)
+pub block_end : (blocks : List Block) (p : List ℕ)
     → block_at blocks p ≡ option_and_then (slice_get blocks) (end_of (calls blocks) 0 (reverse p))
 block_end blocks [] = refl
 block_end blocks (j ∷ p) =
@@ -100,7 +100,7 @@ deep_of blocks h longest low p b e =
     omega (arith, longest.most (reverse p) (c.0, c.1), length-reverse p)
 
 -- the end of a chain is a block
-end_within : (blocks : List Block) → All (IsBlock blocks) blocks → (m : ℕ) → m < length blocks
+pub end_within : (blocks : List Block) → All (IsBlock blocks) blocks → (m : ℕ) → m < length blocks
     → (is : List ℕ) (e : ℕ) → end_of (calls blocks) m is ≡ Some e → e < length blocks
 end_within blocks ok m h [] e at = let z : m ≡ e = cc (at) in omega (arith, z, h)
 end_within blocks ok m h (i ∷ is) e at =

@@ -1,14 +1,14 @@
-use Rattle.std.proofs.Common.{◌≡◌, zero, suc, ℕ, ◌+◌, ◌-◌, ◌<◌, ◌≤◌, List, [], ◌∷◌, ◌++◌, Option, Some, None, length, get_or, map, refl, sym, ap, ◌∙◌, subst, inl, inr, ◌⊎◌, arith, length-append}
+use Rattle.std.proofs.Common.{◌≡◌, zero, suc, ℕ, ◌+◌, ◌-◌, ◌<◌, ◌≤◌, List, [], ◌∷◌, Some, length, get_or, map, refl, sym, ap, ◌∙◌, subst, inl, inr, arith, length-append}
 use Rattle.std.specs.List.{slice_get, All, Contains}
 use Rattle.std.specs.Prelude.{slice_index}
 use Rattle.std.specs.Option.{option_and_then}
 use Rattle.std.proofs.lemmas.Bool.{cases_lt, cases_order}
 use Rattle.std.proofs.lemmas.List.{length-map, get_or-map, get_or_default, get_or_past}
-use Rattle.std.proofs.lemmas.Option.{slice_get_within, get_or_from_slice_get, slice_get-get_or}
+use Rattle.std.proofs.lemmas.Option.{same_Some, slice_get_within, get_or_from_slice_get, slice_get-get_or}
 use Rattle.cf_order.specs.Orders.{row, Needs, Chain, IsRing, HasNoRing}
 use Rattle.cf_hierarchy.specs.declared.gates.Node.{Node}
 use Rattle.cf_hierarchy.specs.declared.gates.Node.TheVariants as node
-use Rattle.cf_hierarchy.specs.Circuits.{needs, IsNode, Shows, cval}
+use Rattle.cf_hierarchy.specs.Circuits.{needs, IsNode, IsGateOf, Shows, cval}
 use Rattle.cf_hierarchy.specs.declared.gates.Gate.{Gate}
 use Rattle.cf_hierarchy.specs.declared.blocks.Driver.{Driver}
 use Rattle.cf_hierarchy.specs.declared.blocks.Driver.TheVariants as driver
@@ -16,11 +16,11 @@ use Rattle.cf_hierarchy.specs.declared.blocks.Call.{Call}
 use Rattle.cf_hierarchy.specs.declared.blocks.Block.{Block}
 use Rattle.cf_hierarchy.specs.declared.instances.Instance.{Instance}
 use Rattle.cf_hierarchy.specs.Hierarchy.{block_at, IsDriver, IsCall, IsBlock}
-use Rattle.cf_hierarchy.specs.Spreads.{no_block, no_call, instance_at, block_of, formal_node, node_of, nodes_from, copy_at, HasCalls, HasNodes, IsSpread, IsBased, IsAt, IsPlaced, Grown}
+use Rattle.cf_hierarchy.specs.Spreads.{no_block, no_call, instance_at, block_of, formal_node, node_of, nodes_from, copy_at, IsSpread, IsBased, IsAt, Grown}
 use Rattle.cf_hierarchy.proofs.Growth.{blank}
-use Rattle.cf_hierarchy.proofs.SpreadLaws.{Called, called, all_get, is_block, formal_later, spread_value}
+use Rattle.cf_hierarchy.proofs.SpreadLaws.{called, all_get, is_block, formal_later, spread_value}
 use Rattle.cf_hierarchy.proofs.NodeLaws.{has_nodes, is_spread}
-use Rattle.cf_hierarchy.specs.Flattening.{Signal, DriverNeeds, SignalNeeds, SignalChain, HasCycle, IsRootInput, ShowsHierarchy}
+use Rattle.cf_hierarchy.specs.Flattening.{Signal, DriverNeeds, SignalNeeds, SignalChain, HasCycle, IsRootInput, ShowsHierarchy, HaveValues, IsGateIn}
 
 abbrev size : List Block → Instance → ℕ
 size blocks c = length (block_of blocks c).drivers
@@ -89,6 +89,12 @@ base_zero : (blocks : List Block) (end : ℕ) (cs : List Instance) → IsBased b
     → 0 < length cs → (get_or cs 0 blank).base ≡ 0
 base_zero blocks end [] based h = absurd (omega arith)
 base_zero blocks end (c ∷ cs) based h = based.0
+
+-- an input's node is no gate
+formal_no : (blocks : List Block) (copies : List Instance) (i k : ℕ) (made : Gate)
+    → formal_node blocks copies i k ≡ node.Output made → ⊥
+formal_no blocks copies zero k made e = cc (e)
+formal_no blocks copies (suc i) k made e = cc (e)
 
 -- the signal is there
 abbrev pub Valid : List Block → Signal → Type 0
@@ -468,6 +474,52 @@ module _ (blocks : List Block) (copies : List Instance) (firsts : List ℕ) (end
       h)
       ∙ ap (λ k. cval means nodes bits m k) z
       ∙ shows means bits inputs m (omega (arith, l, long))
+
+  -- a gate of a node is that of a block
+  gate_own : (p : List ℕ) (b : Block) (s : ℕ) (d : Driver) (made g : Gate) → block_at blocks p ≡ Some b
+      → slice_get b.drivers s ≡ Some d → own p d ≡ node.Output made
+      → g.cover ≡ made.cover → length g.ins ≡ length made.ins → IsGateIn blocks g
+  gate_own p b s (driver.Formal k) made g h e is cover ins =
+      absurd (formal_no blocks copies (copy_at firsts p) k made is)
+  gate_own p b s (driver.Made m) made g h e is cover ins =
+      let at = (instance_at copies (copy_at firsts p)).base in
+      let same : record { ins = map (λ t. at + t) m.ins; cover = m.cover } ≡ made = cc (is) in
+      record {
+        path = p;
+        block = b;
+        signal = s;
+        made = m;
+        at = h;
+        there = e;
+        cover = cover ∙ ap (λ (g : Gate). g.cover) (sym same);
+        ins = ins ∙ ap (λ (g : Gate). length g.ins) (sym same) ∙ length-map m.ins (λ t. at + t);
+      }
+  gate_own p b s (driver.Back j f) made g h e is cover ins = let none : ⊥ = cc (is) in absurd none
+
+  pub gate_in : (g : Gate) → IsGateOf nodes g → IsGateIn blocks g
+  gate_in g is =
+      let x = signal_of is.signal (slice_get_within nodes is.signal (node.Output is.made) is.there) in
+      let v = x.1 in
+      let f : Driver = get_or v.0.drivers x.0.at (driver.Formal 0) in
+      let e : slice_get v.0.drivers x.0.at ≡ Some f = slice_get-get_or v.0.drivers x.0.at
+      (driver.Formal 0) v.2 in
+      let there = node_there x.0 v.0 f v.1 e in
+      gate_own x.0.path v.0 x.0.at f is.made g v.1 e
+      (same_Some (own x.0.path f) (node.Output is.made)
+      (sym there ∙ ap (slice_get nodes) x.2 ∙ is.there)) is.cover is.ins
+
+  -- every signal of the hierarchy has a value, where every number's wire shows it
+  pub all_known : (n : ℕ) (gates : List Gate) (wires : List ℕ)
+      → ((s : ℕ) → s < length nodes → Shows nodes n gates s (get_or wires s 0))
+      → length nodes ≤ length wires → HaveValues blocks n wires
+  all_known n gates wires shows long means bits inputs m l p b s h below =
+      let w = number_within (record { path = p; at = s }) (b, h, below) in
+      let k = (instance_at copies (copy_at firsts p)).base + s in (
+        _,
+        sym (spread_value means blocks bits copies firsts nodes ok spread
+            (has_nodes blocks copies firsts end grown.based) m p s b h below)
+            ∙ shows k w means bits inputs m (omega (arith, l, long)),
+      )
 
   pub root_within : (s : ℕ) → s < length (get_or blocks 0 no_block).drivers → s < length nodes
   root_within s h =

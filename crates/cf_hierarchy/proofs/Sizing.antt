@@ -1,10 +1,10 @@
-use Rattle.std.proofs.Common.{◌≡◌, ◌≢◌, suc, ℕ, ◌+◌, ◌-◌, ◌<◌, ◌≤◌, List, [], ◌∷◌, Option, Some, None, length, get_or, set, take, min, refl, sym, ap, ◌∙◌, subst, inl, inr, arith, length-take, length-set}
-use Rattle.std.specs.List.{slice_get, All, Contains, sum_by}
+use Rattle.std.proofs.Common.{◌≡◌, ◌≢◌, suc, ℕ, ◌+◌, ◌<◌, ◌≤◌, List, [], ◌∷◌, Some, length, get_or, set, min, refl, sym, ap, ◌∙◌, subst, inl, inr, arith, length-take, length-set}
+use Rattle.std.specs.List.{slice_get, All, sum_by}
 use Rattle.std.specs.Prelude.{slice_index}
 use Rattle.std.proofs.lemmas.Bool.{cases_eq}
 use Rattle.std.proofs.lemmas.List.{get_or_default, get_or_read, get_or-take, get_or-set_same, get_or-set_other}
 use Rattle.std.proofs.lemmas.Option.{slice_get-get_or, slice_get_within, get_or_from_slice_get}
-use Rattle.cf_order.specs.Orders.{row, Needs, IsOrder}
+use Rattle.cf_order.specs.Orders.{row, IsOrder}
 use Rattle.cf_order.specs.Chains.{IsLongest, tallest, total}
 use Rattle.cf_order.proofs.ChainLaws.{size, total_is, longest_of, size_of}
 

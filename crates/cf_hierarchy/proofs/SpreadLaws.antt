@@ -1,10 +1,9 @@
-use Rattle.std.proofs.Common.{◌≡◌, zero, suc, ℕ, ◌+◌, ◌-◌, ◌<◌, ◌≤◌, List, [], ◌∷◌, Bool, Option, Some, None, length, get_or, map, refl, sym, ap, ◌∙◌, subst, inl, inr, arith}
+use Rattle.std.proofs.Common.{◌≡◌, zero, suc, ℕ, ◌+◌, ◌<◌, List, [], ◌∷◌, Bool, Option, Some, None, length, get_or, map, refl, sym, ap, ◌∙◌, subst, arith}
 use Rattle.std.specs.List.{slice_get, All}
 use Rattle.std.specs.Prelude.{slice_index}
 use Rattle.std.specs.Option.{option_map, option_and_then}
 use Rattle.std.proofs.lemmas.List.Elements.{All-head, All-tail}
 use Rattle.std.proofs.lemmas.Option.{slice_get_within, get_or_from_slice_get, slice_get-get_or}
-use Rattle.cf_hierarchy.specs.declared.gates.Gate.{Gate}
 use Rattle.cf_hierarchy.specs.declared.gates.Node.{Node}
 use Rattle.cf_hierarchy.specs.declared.gates.Node.TheVariants as node
 use Rattle.cf_hierarchy.specs.Circuits.{Meaning, all_of, value_at, cval}
@@ -14,7 +13,7 @@ use Rattle.cf_hierarchy.specs.declared.blocks.Call.{Call}
 use Rattle.cf_hierarchy.specs.declared.blocks.Block.{Block}
 use Rattle.cf_hierarchy.specs.declared.instances.Instance.{Instance}
 use Rattle.cf_hierarchy.specs.Hierarchy.{block_at, formal_value, driven, hval, IsDriver, IsCall, IsBlock}
-use Rattle.cf_hierarchy.specs.Spreads.{no_block, no_call, instance_at, block_of, formal_node, node_of, copy_at, HasCalls, IsSpread, HasNodes}
+use Rattle.cf_hierarchy.specs.Spreads.{no_block, no_call, instance_at, block_of, formal_node, node_of, copy_at, IsSpread, HasNodes}
 
 pub then_cases : {A B : Type 0} (f : A → Option B) (o : Option A) (b : B)
     → option_and_then f o ≡ Some b → (a : A) × (o ≡ Some a) × (f a ≡ Some b)

@@ -1,16 +1,16 @@
-use Rattle.std.proofs.Common.{◌≡◌, ◌≢◌, suc, ℕ, ◌+◌, ◌-◌, ◌<◌, ◌≤◌, List, [], ◌∷◌, ◌++◌, Bool, false, Option, Some, None, length, get_or, set, take, map, refl, sym, ap, ◌∙◌, subst, inl, inr, arith, length-take, length-set}
+use Rattle.std.proofs.Common.{◌≡◌, ℕ, ◌+◌, ◌<◌, ◌≤◌, List, [], ◌∷◌, Bool, false, Option, Some, length, get_or, set, map, refl, sym, ap, ◌∙◌, subst, inl, inr, arith, length-take, length-set}
 use Rattle.std.specs.List.{slice_get, All, Contains}
 use Rattle.std.specs.Prelude.{slice_index}
 use Rattle.std.specs.Option.{option_map}
 use Rattle.std.proofs.lemmas.Bool.{cases_eq}
 use Rattle.std.proofs.lemmas.List.{get_or_default, get_or-map, get_or-take, get_or-set_same, get_or-set_other, length-map, length_push}
-use Rattle.std.proofs.lemmas.List.Elements.{All-map}
+use Rattle.std.proofs.lemmas.List.Elements.{All-map, All-push}
 use Rattle.std.proofs.lemmas.Option.{slice_get-get_or}
-use Rattle.cf_order.specs.Orders.{row, Needs, IsOrder}
+use Rattle.cf_order.specs.Orders.{row, IsOrder}
 use Rattle.cf_hierarchy.specs.declared.gates.Gate.{Gate}
 use Rattle.cf_hierarchy.specs.declared.gates.Node.{Node}
 use Rattle.cf_hierarchy.specs.declared.gates.Node.TheVariants as node
-use Rattle.cf_hierarchy.specs.Circuits.{needs, IsNode, Meaning, all_of, value_at, cval, UsesLower, wire_values, Shows, AddsNode}
+use Rattle.cf_hierarchy.specs.Circuits.{needs, IsNode, Meaning, value_at, cval, UsesLower, wire_values, IsGateOf, Shows, AddsNode}
 use Rattle.cf_hierarchy.proofs.Values.{cval_up, cval_step, all_known, UsesLower-push, wire_first, wire_kept, wire_new}
 
 -- the first signals of the order have their wires, and these show them
@@ -19,6 +19,7 @@ pub record Wired (nodes : List Node) (order : List ℕ) (n : ℕ) (gates : List 
   pub full : length wires ≡ length nodes
   pub few : length gates ≤ k
   pub lower : UsesLower n gates
+  pub made : All (IsGateOf nodes) gates
   pub below : (i : ℕ) → i < k → get_or wires (get_or order i 0) 0 < n + length gates
   pub shows : (means : Meaning) (bits : List Bool) → length bits ≡ n → (i : ℕ) → i < k
       → cval means nodes bits k (get_or order i 0) ≡ Some
@@ -115,6 +116,18 @@ adds_lower n wires old new w (node.Output g) (e, f) is known lower =
           (arith, e, ap length f ∙ length_push old gate),
     )
 
+-- a gate that is added is that of its node
+adds_made : (nodes : List Node) (n : ℕ) (wires : List ℕ) (old new : List Gate) (w s : ℕ) (x : Node)
+    → AddsNode n wires old new w x → slice_get nodes s ≡ Some x → All (IsGateOf nodes) old
+    → All (IsGateOf nodes) new
+adds_made nodes n wires old new w s (node.Input i) (e, f) at made = subst (All (IsGateOf nodes)) (sym f) made
+adds_made nodes n wires old new w s (node.Alias t) (e, f) at made = subst (All (IsGateOf nodes)) (sym f) made
+adds_made nodes n wires old new w s (node.Output g) (e, f) at made =
+    let gate : Gate = record { ins = map (slice_index wires) g.ins; cover = g.cover } in
+    subst (All (IsGateOf nodes)) (sym f)
+    (All-push (IsGateOf nodes) old gate made
+    (record { signal = s; made = g; there = at; cover = refl; ins = length-map g.ins (slice_index wires) }))
+
 module _ (nodes : List Node) (order : List ℕ) (is : IsOrder (map needs nodes) order) (n : ℕ)
     (old new : List Gate) (wires : List ℕ) (k w : ℕ) (x : Node)
     (wired : Wired nodes order n old wires k) (h : k < length order)
@@ -139,6 +152,9 @@ module _ (nodes : List Node) (order : List ℕ) (is : IsOrder (map needs nodes) 
     full = length-set wires (get_or order k 0) w ∙ wired.full;
     few = omega (arith, (adds_longer n wires old new w x adds).1, wired.few);
     lower = wired_lower.0;
+    made = adds_made nodes n wires old new w (get_or order k 0) x adds
+        (slice_get-get_or nodes (get_or order k 0) x
+        (omega (arith, is.within k h, length-map nodes needs)) ∙ ap Some (sym e)) wired.made;
     below = λ i l. elim (cases_eq i k) [
       | inl z ↦ subst (λ j. get_or (set wires (get_or order k 0) w) (get_or order j 0) 0 < n +
           length new) (sym z) (omega (arith, here, wired_lower.1))

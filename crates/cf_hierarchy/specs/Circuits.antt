@@ -57,6 +57,14 @@ Shows nodes n gates s w =
     (means : Meaning) (bits : List Bool) → length bits ≡ n → (m : ℕ) → length nodes ≤ m
     → cval means nodes bits m s ≡ Some (slice_index_or (wire_values means bits gates) w false)
 
+-- The gate is that of a node: it has the cover, over as many wires.
+pub record IsGateOf (nodes : List Node) (g : Gate) : Type 0 where
+  pub signal : ℕ
+  pub made : Gate
+  pub there : slice_get nodes signal ≡ Some (node.Output made)
+  pub cover : g.cover ≡ made.cover
+  pub ins : length g.ins ≡ length made.ins
+
 -- Each signal's wire is an input or a gate's output.
 abbrev pub HaveWires : List Node → ℕ → List Gate → List ℕ → Type 0
 HaveWires nodes n gates wires = (s : ℕ) → s < length nodes → slice_index wires s < n + length gates

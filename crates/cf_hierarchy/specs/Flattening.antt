@@ -25,9 +25,33 @@ ShowsHierarchy blocks n gates wires s =
     → hval means blocks bits m [] s
     ≡ Some (slice_index_or (wire_values means bits gates) (slice_index wires s) false)
 
+-- The gate is that of a block: it has the cover, over as many wires.
+pub record IsGateIn (blocks : List Block) (g : Gate) : Type 0 where
+  pub path : List ℕ
+  pub block : Block
+  pub signal : ℕ
+  pub made : Gate
+  pub at : block_at blocks path ≡ Some block
+  pub there : slice_get block.drivers signal ≡ Some (driver.Made made)
+  pub cover : g.cover ≡ made.cover
+  pub ins : length g.ins ≡ length made.ins
+
+-- Every signal of the hierarchy has a value, from the number of all signals on.
+abbrev pub HaveValues : List Block → ℕ → List ℕ → Type 0
+HaveValues blocks n wires =
+    (means : Meaning) (bits : List Bool) → length bits ≡ n → (m : ℕ) → length wires ≤ m
+    → (p : List ℕ) (b : Block) (s : ℕ) → block_at blocks p ≡ Some b → s < length b.drivers
+    → (value : Bool) × (hval means blocks bits m p s ≡ Some value)
+
 -- the first block
 abbrev pub root_of : List Block → Block
 root_of blocks = slice_index_or blocks 0 no_block
+
+-- The wire of each signal of the first block is an input or a gate's output.
+abbrev pub HaveRootWires : List Block → ℕ → List Gate → List ℕ → Type 0
+HaveRootWires blocks n gates wires =
+    (s : ℕ) → s < length (root_of blocks).drivers
+    → (s < length wires) × (slice_index wires s < n + length gates)
 
 -- The wire of each signal of the first block has its value.
 abbrev pub ShowRoot : List Block → ℕ → List Gate → List ℕ → Type 0

@@ -1,7 +1,6 @@
-use Rattle.std.specs.Prelude.{◌≡◌, ℕ, zero, suc, ◌+◌, ◌<◌, ◌≤◌, List, [], ◌∷◌, Bool, Option, Some, None, map, length, All, Contains}
+use Rattle.std.specs.Prelude.{◌≡◌, ℕ, zero, suc, ◌<◌, List, [], ◌∷◌, Bool, Option, Some, None, map, length, All}
 use Rattle.std.specs.List.{slice_get}
 use Rattle.std.specs.Option.{option_map, option_and_then}
-use Rattle.cf_hierarchy.specs.declared.gates.Gate.{Gate}
 use Rattle.cf_hierarchy.specs.Circuits.{Meaning, all_of}
 use Rattle.cf_hierarchy.specs.declared.blocks.Driver.{Driver}
 use Rattle.cf_hierarchy.specs.declared.blocks.Driver.TheVariants as driver

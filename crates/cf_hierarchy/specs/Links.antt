@@ -26,6 +26,10 @@ pub record IsTooDeep (blocks : List Block) : Type 0 where
 abbrev pub expanded : List Block → List ℕ → ℕ
 expanded blocks weights = total (calls blocks) weights 64 0
 
+-- how many signals all chains of at most so many calls have
+abbrev pub signals_within : List Block → ℕ → ℕ
+signals_within blocks levels = total (calls blocks) (map (λ b. length b.drivers) blocks) levels 0
+
 -- No chain of calls is too long, the expansion isn't too large, and no signals need one another in a ring.
 pub record HasNoFault (blocks : List Block) (weights : List ℕ) : Type 0 where
   pub deep : IsAtMostDeep blocks 64

@@ -2,7 +2,7 @@
 
 ghost use Rattle.std.specs.Prelude.{◌≡◌, ℕ, ◌+◌, ◌<◌, ◌≤◌, ◌^◌, List, [], ◌∷◌, ◌++◌, Bool, All, Contains, map, length, slice_index, IfOk};
 ghost use Rattle.cf_order.specs.Orders.{IsOrder};
-ghost use Rattle.cf_hierarchy.specs.Circuits.{needs, IsNode, UsesLower, HaveWires, ShowAll, AddsNode};
+ghost use Rattle.cf_hierarchy.specs.Circuits.{needs, IsNode, UsesLower, HaveWires, IsGateOf, ShowAll, AddsNode};
 
 use crate::NoMemory;
 use crate::gates::{Gate, Gates, Node};
@@ -26,6 +26,7 @@ pub fn flat_of(alloc: Global, nodes: &[Node], inputs: u64, order: &[u64]) -> Res
     ensures inputs { IfOk result (λ flat. flat.inputs ≡ inputs) }
     ensures signals { IfOk result (λ flat. length flat.wires ≡ length nodes.now) }
     ensures lower { IfOk result (λ flat. UsesLower inputs flat.gates) }
+    ensures made { IfOk result (λ flat. All (IsGateOf nodes.now) flat.gates) }
     ensures wires { IfOk result (λ flat. HaveWires nodes.now inputs flat.gates flat.wires) }
     ensures shows { IfOk result (λ flat. ShowAll nodes.now inputs flat.gates flat.wires) }
 {

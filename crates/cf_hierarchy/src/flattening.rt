@@ -6,7 +6,8 @@ ghost use Rattle.cf_hierarchy.specs.Circuits.{UsesLower, needs};
 ghost use Rattle.cf_hierarchy.specs.Hierarchy.{IsBlock};
 ghost use Rattle.cf_hierarchy.specs.Spreads.{IsAtMostDeep};
 ghost use Rattle.cf_hierarchy.specs.declared.flattening.FlatFault.{FlatFault};
-ghost use Rattle.cf_hierarchy.specs.Flattening.{IsRootInput, root_of, ShowRoot, IsCycle, HasCycle};
+ghost use Rattle.cf_hierarchy.specs.Flattening.{HaveRootWires, HaveValues, IsGateIn, IsRootInput, root_of, ShowRoot, IsCycle, HasCycle};
+ghost use Rattle.cf_hierarchy.specs.Links.{signals_within};
 
 use crate::NoMemory;
 use crate::blocks::Block;
@@ -44,6 +45,11 @@ pub fn flatten(alloc: Global, blocks: &[Block], inputs: u64, levels: u64) -> Res
     requires levels { levels < 100 }
     requires deep { IsAtMostDeep blocks.now levels }
     ensures lower { IfOk result (λ flat. UsesLower inputs flat.gates) }
+    ensures made { IfOk result (λ flat. All (IsGateIn blocks.now) flat.gates) }
+    ensures few { IfOk result (λ flat. length flat.wires ≤ signals_within blocks.now levels) }
+    ensures wires { IfOk result (λ flat.
+        HaveRootWires blocks.now inputs flat.gates flat.wires) }
+    ensures known { IfOk result (λ flat. HaveValues blocks.now inputs flat.wires) }
     ensures shows { IfOk result (λ flat. ShowRoot blocks.now inputs flat.gates flat.wires) }
     ensures no_cycle { IfOk result (λ _. HasCycle blocks.now → ⊥) }
     ensures cycle { IfErr result (IsCycle blocks.now) }

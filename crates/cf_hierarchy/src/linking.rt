@@ -4,8 +4,9 @@
 ghost use Rattle.std.specs.Prelude.{◌≡◌, ℕ, ◌+◌, ◌<◌, ◌≤◌, ◌^◌, List, All, map, length, slice_index_or, IfOk, IfErr};
 ghost use Rattle.cf_order.specs.Orders.{HasNoRing};
 ghost use Rattle.cf_hierarchy.specs.Hierarchy.{IsBlock};
-ghost use Rattle.cf_hierarchy.specs.Flattening.{IsRootInput, root_of, ShowRoot};
-ghost use Rattle.cf_hierarchy.specs.Links.{called, calls, HasNoFault, HasFault};
+ghost use Rattle.cf_hierarchy.specs.Circuits.{UsesLower};
+ghost use Rattle.cf_hierarchy.specs.Flattening.{HaveRootWires, HaveValues, IsGateIn, IsRootInput, root_of, ShowRoot};
+ghost use Rattle.cf_hierarchy.specs.Links.{called, calls, signals_within, HasNoFault, HasFault};
 
 use crate::NoMemory;
 use crate::blocks::{Block, Call};
@@ -56,6 +57,12 @@ pub fn link(
     requires weights { length weights.now ≡ length blocks.now }
     requires room { length blocks.now < 2 ^ 62 }
     requires not_recursive { HasNoRing (calls blocks.now) }
+    ensures lower { IfOk result (λ flat. UsesLower inputs flat.gates) }
+    ensures made { IfOk result (λ flat. All (IsGateIn blocks.now) flat.gates) }
+    ensures few { IfOk result (λ flat. length flat.wires ≤ signals_within blocks.now 64) }
+    ensures wires { IfOk result (λ flat.
+        HaveRootWires blocks.now inputs flat.gates flat.wires) }
+    ensures known { IfOk result (λ flat. HaveValues blocks.now inputs flat.wires) }
     ensures shows { IfOk result (λ flat. ShowRoot blocks.now inputs flat.gates flat.wires) }
     ensures no_fault { IfOk result (λ _. HasNoFault blocks.now weights.now) }
     ensures fault { IfErr result (HasFault blocks.now weights.now) }

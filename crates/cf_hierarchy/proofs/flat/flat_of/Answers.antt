@@ -1,7 +1,5 @@
-use Rattle.std.proofs.Common.{◌≡◌, ◌+◌, ◌<◌, ℕ, List, get_or, arith, ap, ◌∙◌, subst, sym, refl, length}
-use Rattle.std.specs.List.{All}
-use Rattle.std.proofs.lemmas.List.{get_or_read}
-use Rattle.cf_hierarchy.specs.Circuits.{needs, AddsNode, Shows}
+use Rattle.std.proofs.Common.{◌+◌, ◌<◌, get_or, arith, ap, ◌∙◌, subst, sym, length}
+use Rattle.cf_hierarchy.specs.Circuits.{AddsNode, Shows}
 use Rattle.cf_hierarchy.proofs.Wiring.{needs_within, node_ok, wired_more, all_shown, all_below}
 use Rattle.cf_hierarchy.proofs.flat.flat_of.Goals as goal
 

@@ -1,4 +1,4 @@
-use Rattle.std.proofs.Common.{◌≡◌, map, take}
+use Rattle.std.proofs.Common.{◌≡◌, take}
 use Rattle.cf_hierarchy.specs.Links.{called}
 use Rattle.cf_hierarchy.proofs.linking.called_of.Given as goal
 

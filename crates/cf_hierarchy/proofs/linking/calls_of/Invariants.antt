@@ -1,4 +1,4 @@
-use Rattle.std.proofs.Common.{◌≡◌, map, take}
+use Rattle.std.proofs.Common.{◌≡◌, take}
 use Rattle.cf_hierarchy.specs.Links.{calls}
 use Rattle.cf_hierarchy.proofs.linking.calls_of.Given as goal
 

@@ -1,4 +1,4 @@
-use Rattle.std.proofs.Common.{◌≡◌, ◌<◌, ◌≤◌, ℕ, List, length, arith, ap, ◌∙◌, subst, sym}
+use Rattle.std.proofs.Common.{◌<◌, length, arith, ap, ◌∙◌, subst, sym}
 use Rattle.std.proofs.lemmas.List.{length-map}
 use Rattle.cf_hierarchy.specs.declared.blocks.Block.{Block}
 use Rattle.cf_hierarchy.specs.Links.{called}

@@ -1,4 +1,4 @@
-use Rattle.std.proofs.Common.{◌+◌, ◌<◌, length, get_or, arith, ◌∙◌, ap, subst, sym}
+use Rattle.std.proofs.Common.{◌<◌, length, get_or, arith, ◌∙◌, ap, subst, sym}
 use Rattle.std.specs.Prelude.{slice_index}
 use Rattle.cf_hierarchy.specs.declared.blocks.Block.{Block}
 use Rattle.cf_hierarchy.specs.Spreads.{IsReached}

@@ -1,5 +1,4 @@
 use Rattle.std.proofs.Common.{◌≡◌, ◌++◌, map, take}
-use Rattle.std.specs.Prelude.{slice_index}
 use Rattle.cf_hierarchy.specs.Spreads.{node_of}
 use Rattle.cf_hierarchy.proofs.nodes.add_nodes.Given as goal
 

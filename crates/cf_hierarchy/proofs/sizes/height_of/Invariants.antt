@@ -1,4 +1,4 @@
-use Rattle.std.proofs.Common.{◌≡◌, ◌<◌, ◌≤◌, ◌^◌, max, drop}
+use Rattle.std.proofs.Common.{◌≡◌, ◌≤◌, ◌^◌, max, drop}
 use Rattle.cf_order.specs.Chains.{tallest}
 use Rattle.cf_hierarchy.proofs.sizes.height_of.Given as goal
 

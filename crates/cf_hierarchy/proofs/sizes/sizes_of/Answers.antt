@@ -1,9 +1,9 @@
-use Rattle.std.proofs.Common.{◌≡◌, ◌+◌, ◌<◌, ◌≤◌, ◌^◌, ℕ, List, length, min, arith, ap, ◌∙◌, subst, sym}
+use Rattle.std.proofs.Common.{◌≡◌, ◌+◌, ◌<◌, ◌≤◌, ◌^◌, length, min, arith, ap, ◌∙◌, subst, sym}
 use Rattle.std.specs.List.{All, sum_by}
 use Rattle.std.specs.Prelude.{slice_index}
 use Rattle.cf_order.specs.Chains.{IsLongest, tallest, total}
 use Rattle.cf_order.proofs.ChainLaws.{lists_chains}
-use Rattle.cf_hierarchy.proofs.Sizing.{Sized, called_row, called_within, called_low, called_few, sized_more, all_longest, all_counted}
+use Rattle.cf_hierarchy.proofs.Sizing.{called_row, called_within, called_low, called_few, sized_more, all_longest, all_counted}
 use Rattle.cf_hierarchy.proofs.sizes.sizes_of.Goals as goal
 
 pub height_of-height-requires-clause-within : goal.height_of-height-requires-clause-within

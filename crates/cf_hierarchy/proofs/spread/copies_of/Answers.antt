@@ -1,4 +1,3 @@
-use Rattle.std.proofs.Common.{arith}
 use Rattle.cf_hierarchy.proofs.Growth.{level_goes}
 use Rattle.cf_hierarchy.proofs.spread.copies_of.Goals as goal
 

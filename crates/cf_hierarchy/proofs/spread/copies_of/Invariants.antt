@@ -1,4 +1,3 @@
-use Rattle.std.proofs.Common.{◌≡◌}
 use Rattle.cf_hierarchy.proofs.Growth.{Level, Levelled}
 use Rattle.cf_hierarchy.proofs.spread.copies_of.Given as goal
 

@@ -1,4 +1,4 @@
-use Rattle.std.proofs.Common.{◌<◌, length, get_or, arith, ◌∙◌, ap, subst, sym}
+use Rattle.std.proofs.Common.{◌<◌, length, get_or, ◌∙◌, ap, subst, sym}
 use Rattle.cf_hierarchy.specs.declared.blocks.Block.{Block}
 use Rattle.cf_hierarchy.proofs.Growth.{call_there, block_read, blank}
 use Rattle.cf_hierarchy.proofs.spread.spread_one.Goals as goal
