@@ -6,7 +6,6 @@ mod cases;
 mod outcomes;
 
 use cases::next_case;
-use cf_blif::read_blif;
 use outcomes::Outcome;
 use std::io;
 use std::io::Read;
@@ -16,7 +15,7 @@ fn write_outcomes(rt: &(impl Print + AllocGlobal), bytes: &[u8]) -> io::Result<(
     let alloc = rt.alloc();
     let mut rest = bytes;
     while let Some((case, later)) = next_case(rest) {
-        let outcome = Outcome::new(read_blif(alloc, case.text));
+        let outcome = Outcome::new(alloc, case.text);
         println!(rt; "{}: {outcome}", case.title)?;
         rest = later;
     }

@@ -5,8 +5,6 @@
 #[cfg(test)]
 mod calls;
 #[cfg(test)]
-mod circuits;
-#[cfg(test)]
 mod sessions;
 #[cfg(test)]
 mod streams;
