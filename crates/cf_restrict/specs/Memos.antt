@@ -9,7 +9,8 @@ use Rattle.cf_restrict.specs.declared.memo.Setting.{Setting}
 use Rattle.cf_restrict.specs.declared.memo.Restricted.{Restricted}
 use Rattle.cf_restrict.specs.Restrictions.{restricted_exits}
 
--- The head and the exits are the canon of the exits that grouping g of an earlier table has with bit i set to b.
+-- The head and the exits are the canon of the exits that grouping g of an earlier table has with bit i set to
+-- b.
 abbrev pub IsRestricted : (before now : Levels) → Gid → ℕ → Bool → Gid → List ℕ → Type 0
 IsRestricted before now g i b head exits =
     HasCanon now head g.level (restricted_exits g.level (pattern before g.level g.at) i b) exits
@@ -35,9 +36,10 @@ pub record HasValue (entries : List (Setting × Restricted)) (value : Restricted
   pub there : slice_get entries place ≡ Some entry
   pub is_it : entry.1 ≡ value
 
--- The entry at a place is what grouping g of an earlier table comes to with bit i set to b, and the table has gained only
--- what its head is made of.
-pub record IsRestrictedAt (before now : Levels) (entries : List (Setting × Restricted)) (g : Gid) (i : ℕ) (b : Bool) (place : ℕ) : Type 0 where
+-- The entry at a place is what grouping g of an earlier table comes to with bit i set to b, and the table has
+-- gained only what its head is made of.
+pub record IsRestrictedAt (before now : Levels) (entries : List (Setting × Restricted))
+    (g : Gid) (i : ℕ) (b : Bool) (place : ℕ) : Type 0 where
   pub entry : Setting × Restricted
   pub there : slice_get entries place ≡ Some entry
   pub is_it : IsRestricted before now g i b entry.1.head entry.1.exits.items

@@ -46,7 +46,8 @@ fn restrict_base(
     requires variable { i < 1 }
     requires good { IsGood table.now.levels }
     requires owned { Owns table.now g }
-    ensures { IfOk result (λ r. HasCanon table.now.levels r.0 0 (restricted_exits 0 (pattern_of table.now g) i b) r.1.items) }
+    ensures { IfOk result (λ r. HasCanon table.now.levels r.0 0
+        (restricted_exits 0 (pattern_of table.now g) i b) r.1.items) }
 {
     let exit = exit_at_bit(g, b);
     let exits = Vec::from_slice(alloc, &[exit])?;
@@ -66,7 +67,8 @@ pub(crate) fn restrict_grouping(
     requires variable { i < 2 ^ g.level }
     requires good { IsGood table.old.levels }
     requires owned { Owns table.old g }
-    ensures restricted { IfOk result (λ r. IsRestricted table.old.levels table.new.levels g i b r.0 r.1.items) }
+    ensures restricted { IfOk result (λ r.
+        IsRestricted table.old.levels table.new.levels g i b r.0 r.1.items) }
     ensures added { IfOk result (λ r. AddsPartsOf table.old table.new r.0) }
     ensures good { IsGood table.new.levels }
     ensures extends { Extends table.old.levels table.new.levels }
@@ -91,7 +93,8 @@ fn restrict_once(
     requires good { IsGood table.old.levels }
     requires owned { Owns table.old g }
     requires known { AreRestrictions table.old.levels done.old.entries }
-    ensures restricted { IfOk result (IsRestrictedAt table.old.levels table.new.levels done.new.entries g i b) }
+    ensures restricted { IfOk result
+        (IsRestrictedAt table.old.levels table.new.levels done.new.entries g i b) }
     ensures known { OnOk result (AreRestrictions table.new.levels done.new.entries) }
     ensures good { IsGood table.new.levels }
     ensures extends { Extends table.old.levels table.new.levels }
@@ -125,7 +128,8 @@ fn restrict_parts(
     requires good { IsGood table.old.levels }
     requires owned { Owns table.old g }
     requires known { AreRestrictions table.old.levels done.old.entries }
-    ensures restricted { IfOk result (λ r. IsRestricted table.old.levels table.new.levels g i b r.0 r.1.items) }
+    ensures restricted { IfOk result (λ r.
+        IsRestricted table.old.levels table.new.levels g i b r.0 r.1.items) }
     ensures added { IfOk result (λ r. AddsPartsOf table.old table.new r.0) }
     ensures known { OnOk result (AreRestrictions table.new.levels done.new.entries) }
     ensures good { IsGood table.new.levels }
@@ -163,7 +167,8 @@ fn restrict_first(
     requires good { IsGood table.old.levels }
     requires owned { Owns table.old g }
     requires known { AreRestrictions table.old.levels done.old.entries }
-    ensures restricted { IfOk result (λ r. IsRestricted table.old.levels table.new.levels g i b r.0 r.1.items) }
+    ensures restricted { IfOk result (λ r.
+        IsRestricted table.old.levels table.new.levels g i b r.0 r.1.items) }
     ensures added { IfOk result (λ r. AddsPartsOf table.old table.new r.0) }
     ensures known { OnOk result (AreRestrictions table.new.levels done.new.entries) }
     ensures good { IsGood table.new.levels }
@@ -195,7 +200,8 @@ fn restrict_second(
     requires owned { Owns table.old g }
     requires known { AreRestrictions table.old.levels done.old.entries }
     ensures restricted { let position = 2 ^ (g.level - 1) + i in
-        IfOk result (λ r. IsRestricted table.old.levels table.new.levels g position b r.0 r.1.items) }
+        IfOk result (λ r.
+        IsRestricted table.old.levels table.new.levels g position b r.0 r.1.items) }
     ensures added { IfOk result (λ r. AddsPartsOf table.old table.new r.0) }
     ensures known { OnOk result (AreRestrictions table.new.levels done.new.entries) }
     ensures good { IsGood table.new.levels }
@@ -259,10 +265,12 @@ fn restricted_rows(
     requires none { rows.old ≡ ended [] }
     ensures rows { let l = g.level - 1 in
         OnOk result (ListEach table.new.levels l
-        (λ j. restricted_exits l (row (pattern table.old.levels l) (connection_at (node_of table.old g).connections j)) i b)
+        (λ j. restricted_exits l
+        (row (pattern table.old.levels l) (connection_at (node_of table.old g).connections j)) i b)
         (length (node_of table.old g).connections) rows.new.rows) }
     ensures ended { OnOk result (rows.new.begun ≡ []) }
-    ensures added { OnOk result (AddsOnlyIn table.old.levels table.new.levels (g.level - 1) rows.new.rows) }
+    ensures added { OnOk result
+        (AddsOnlyIn table.old.levels table.new.levels (g.level - 1) rows.new.rows) }
     ensures known { OnOk result (AreRestrictions table.new.levels done.new.entries) }
     ensures good { IsGood table.new.levels }
     ensures extends { Extends table.old.levels table.new.levels }

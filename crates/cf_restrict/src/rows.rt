@@ -51,7 +51,8 @@ pub(crate) fn middle_rows(
     requires middles { All (λ j. j < length (node_of table.now g).connections) middles.now }
     ensures rows { let l = g.level - 1 in
         IfOk result (λ v. ListEach table.now.levels l
-        (λ i. row (pattern table.now.levels l) (connection_at (node_of table.now g).connections (slice_index_or middles.now i 0)))
+        (λ i. row (pattern table.now.levels l)
+        (connection_at (node_of table.now g).connections (slice_index_or middles.now i 0)))
         (length middles.now) v.rows) }
     ensures ended { IfOk result (λ v. v.begun ≡ []) }
 {
