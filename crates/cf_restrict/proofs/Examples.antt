@@ -1,4 +1,4 @@
-use Rattle.std.proofs.Common.{◌≡◌, true, false, [], ◌∷◌, pos, refl}
+use Rattle.std.proofs.Common.{◌≡◌, true, false, [], ◌∷◌, refl}
 use Rattle.cf_model.specs.Assignments.{all_bits}
 use Rattle.cf_restrict.specs.Restrictions.{restricted_exits, returned_exits}
 

@@ -4,3 +4,4 @@ pub mod Covered
 pub mod Turns
 pub mod MemoFacts
 pub mod Examples
+pub mod ValueLaws

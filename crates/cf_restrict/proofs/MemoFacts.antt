@@ -1,20 +1,18 @@
-use Rattle.std.proofs.Common.{◌≡◌, ℕ, zero, suc, ◌<◌, List, [], ◌∷◌, length, Bool, true, false, not, cond, ◌+◌, ◌&&◌, nat_eq, Option, Some, None, IfSome, position, refl, sym, ◌∙◌, ap, subst, arith}
+use Rattle.std.proofs.Common.{◌≡◌, ℕ, suc, ◌<◌, List, [], ◌∷◌, Bool, true, false, not, cond, ◌+◌, ◌&&◌, nat_eq, Option, Some, None, IfSome, position, refl, sym, ◌∙◌, ap, subst, arith}
 use Rattle.std.specs.List.{slice_get, position_or_len}
 use Rattle.std.specs.Map.{keys_of}
 use Rattle.std.proofs.lemmas.Bool.Decides.{nat_tests}
 use Rattle.std.proofs.lemmas.Option.{same_Some}
 use Rattle.std.proofs.Math.Bool.{beq}
 use Rattle.indexmap.specs.IndexMap.{insert_entry}
-use Rattle.cf_model.specs.Diagrams.{Levels, IsGood, Extends}
+use Rattle.cf_model.specs.Diagrams.{Levels, IsGood, Extends, count, pattern}
 use Rattle.cf_model.specs.Patterns.{sub}
-use Rattle.cf_model.specs.Diagrams.{count, pattern}
 use Rattle.cf_model.specs.Renumbering.{IsCanon}
 use Rattle.cf_model.proofs.Growing.{pattern_kept}
 use Rattle.cf_table.specs.declared.Gid.{Gid}
-use Rattle.cf_table.specs.Kept.{Each}
 use Rattle.cf_table.proofs.Entries.{Follows, found_at, inserted}
 use Rattle.cf_table.proofs.Told.{same_gid}
-use Rattle.cf_build.specs.Assembling.{HasCanon, AddsOnly}
+use Rattle.cf_build.specs.Assembling.{AddsOnly}
 use Rattle.cf_restrict.specs.declared.memo.Setting.{Setting}
 use Rattle.cf_restrict.specs.declared.memo.Restricted.{Restricted}
 use Rattle.cf_restrict.specs.contracts.memo.SettingPartialEq.TheImpl as eq

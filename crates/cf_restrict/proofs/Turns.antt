@@ -1,11 +1,11 @@
 use Rattle.std.proofs.Common.{◌≡◌, ℕ, zero, suc, ◌<◌, ◌≤◌, ◌+◌, ◌-◌, ◌^◌, Bool, true, false, List, [], ◌∷◌, ◌++◌, map, refl, sym, ◌∙◌, ap, subst, length, get_or, arith, inl, inr, Some}
 use Rattle.std.specs.Prelude.{if◌then◌else◌}
-use Rattle.std.specs.List.{flat_map, All, Contains}
+use Rattle.std.specs.List.{flat_map, All, Contains, slice_get}
 use Rattle.std.proofs.lemmas.Bool.{cases_lt}
 use Rattle.std.proofs.lemmas.List.{length-map, length-set, get_or-map, get_or_default}
 use Rattle.cf_model.specs.Assignments.{number_of, with_bit, all_bits}
 use Rattle.cf_model.specs.Pointwise.{restricted}
-use Rattle.cf_model.specs.Renumbering.{AllDiffer, IsApart, IsCanon}
+use Rattle.cf_model.specs.Renumbering.{AllDiffer, IsCanon}
 use Rattle.cf_model.specs.FlatFunctions.{points}
 use Rattle.cf_model.specs.Patterns.{Pattern, sub}
 use Rattle.cf_model.specs.Diagrams.{Levels, Connection, exit_at, connection_at, count, node, row, pattern, exits, IsGoodConnection, IsGood, Extends}
@@ -30,7 +30,6 @@ use Rattle.cf_build.proofs.Words.{map_same}
 use Rattle.cf_table.specs.Groupings.{Groupings}
 use Rattle.cf_pair.proofs.Constants.{own_canon}
 use Rattle.cf_model.proofs.CanonLaws.{same_lists}
-use Rattle.std.specs.List.{slice_get}
 use Rattle.std.proofs.lemmas.Option.{slice_get-get_or}
 use Rattle.cf_pair.proofs.Pairs.{callee_kept, callee_under, base_read, canon_same}
 use Rattle.cf_restrict.specs.Restrictions.{exit_in, restricted_exits, returned_exits}

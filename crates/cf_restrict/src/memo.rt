@@ -1,7 +1,6 @@
 //! The groupings that were restricted within one call, so that none is restricted twice.
 
 ghost use Rattle.std.specs.Prelude.{◌<◌, length, IfOk, OnOk, IfSome};
-ghost use Rattle.std.specs.List.{slice_get};
 ghost use Rattle.cf_model.specs.Diagrams.{Levels};
 ghost use Rattle.cf_restrict.specs.Memos.{KeepsRestriction, AreRestrictions, HasKey, HasValue};
 

@@ -1,6 +1,6 @@
 //! The grouping of the exits that a grouping has where one bit is set, level by level.
 
-ghost use Rattle.std.specs.Prelude.{◌≡◌, ◌<◌, ◌≤◌, ◌-◌, ◌+◌, ◌^◌, [], ◌∷◌, length, IfOk, OnOk, if◌then◌else◌};
+ghost use Rattle.std.specs.Prelude.{◌≡◌, ◌<◌, ◌≤◌, ◌-◌, ◌+◌, ◌^◌, [], length, IfOk, OnOk, if◌then◌else◌};
 ghost use Rattle.cf_model.specs.Diagrams.{connection_at, pattern, row, IsGood, Extends};
 ghost use Rattle.cf_tuple.specs.Books.{Lengthens};
 ghost use Rattle.cf_table.specs.Groupings.{Owns, node_of, pattern_of};

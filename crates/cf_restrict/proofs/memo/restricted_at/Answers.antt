@@ -1,4 +1,4 @@
-use Rattle.std.proofs.Common.{◌≡◌, Option, Bor, option_map, refl, sym, ◌∙◌, ap, arith}
+use Rattle.std.proofs.Common.{Option, Bor, option_map, refl, sym, ◌∙◌, ap}
 use Rattle.std.specs.Map.Iter.{deref_pair}
 use Rattle.cf_restrict.specs.declared.memo.Setting.{Setting}
 use Rattle.cf_restrict.specs.declared.memo.Restricted.{Restricted}

@@ -1,4 +1,4 @@
-use Rattle.std.proofs.Common.{◌≡◌, ℕ, List, length, ◌+◌, ◌-◌, ◌∙◌, ap, arith, get_or}
+use Rattle.std.proofs.Common.{◌≡◌, ℕ, List, length, ◌-◌, ◌∙◌, ap, arith, get_or}
 use Rattle.cf_model.specs.Diagrams.{Connection, connection_at, node, row, pattern}
 use Rattle.cf_table.specs.declared.Gid.{Gid}
 use Rattle.cf_table.specs.Groupings.{connection_of}
