@@ -5,3 +5,5 @@ pub mod Turns
 pub mod MemoFacts
 pub mod Examples
 pub mod ValueLaws
+pub mod Doing
+pub mod QuantLaws
