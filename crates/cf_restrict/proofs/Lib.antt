@@ -1,0 +1,9 @@
+pub mod BitTables
+pub mod HalfWords
+pub mod Covered
+pub mod Turns
+pub mod MemoFacts
+pub mod Examples
+pub mod ValueLaws
+pub mod Doing
+pub mod QuantLaws

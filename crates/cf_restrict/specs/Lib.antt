@@ -1,0 +1,3 @@
+pub mod Restrictions
+pub mod Memos
+pub mod Quantified
