@@ -29,7 +29,11 @@ pub(crate) fn books_of(alloc: Global, directory: &Directory) -> Result<Vec<NameB
 }
 
 /// A book of the signals of a model: the inputs, the outputs of gates, and what calls drive.
-fn book_of(alloc: Global, directory: &Directory, model: &ModelDef) -> Result<NameBook, NoMemory>
+pub(crate) fn book_of(
+    alloc: Global,
+    directory: &Directory,
+    model: &ModelDef,
+) -> Result<NameBook, NoMemory>
     requires { twice_driven directory.now model.now ≡ None }
     ensures { IfOk result (λ book. book ≡ signals directory.now model.now) }
 {
@@ -87,7 +91,7 @@ fn add_call(book: &mut NameBook, directory: &Directory, call: &Call) -> Result<(
 }
 
 /// The number of a name in a book. One that isn't there has the number behind all.
-pub(crate) fn number_in(book: &NameBook, name: &[u8]) -> u64
+pub fn number_in(book: &NameBook, name: &[u8]) -> u64
     ensures { result ≡ place bytes_eq book.now name.now }
 {
     match book.find(name) {

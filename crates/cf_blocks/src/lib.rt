@@ -5,6 +5,8 @@ ghost use Rattle.std.specs.Prelude.{◌≡◌, ◌<◌, All, length, slice_index
 ghost use Rattle.cf_circuits.specs.Kept.{IsCall, IsNetlist};
 ghost use Rattle.cf_circuits.specs.Links.{no_model};
 ghost use Rattle.cf_circuits.specs.LinkFaults.{weights_of as weights};
+ghost use Rattle.cf_circuits.specs.Expansions.{signals};
+ghost use Rattle.cf_circuits.specs.Roots.{root};
 ghost use Rattle.cf_links.specs.Faults.{HasNoNameFault};
 ghost use Rattle.cf_blocks.specs.Numbering.{block_of as numbered, blocks_of as all_numbered};
 
@@ -13,11 +15,15 @@ mod calls;
 mod drivers;
 mod numbers;
 
+use crate::books::book_of;
+pub use crate::books::number_in;
 use crate::calls::calls_of;
 use crate::drivers::drivers_of;
 use crate::numbers::Numbers;
 use cf_circuits::models::ModelDef;
 use cf_hierarchy::Block;
+use cf_links::directory::Directory;
+use cf_names::NameBook;
 use std::alloc::{AllocError, Global};
 
 /// There was no memory.
@@ -72,4 +78,14 @@ pub fn weights_of(alloc: Global, models: &[ModelDef]) -> Result<Vec<u64>, NoMemo
         all.push(weight)?;
     }
     Ok(all)
+}
+
+/// The signals of the first model, each by its number.
+pub fn root_signals(alloc: Global, models: &[ModelDef]) -> Result<NameBook, NoMemory>
+    requires netlist { IsNetlist models.now }
+    requires no_fault { HasNoNameFault models.now }
+    ensures { IfOk result (λ book. book ≡ signals models.now (root models.now)) }
+{
+    let directory = Directory::new(alloc, models)?;
+    book_of(alloc, &directory, &models[0])
 }

@@ -11,3 +11,4 @@ pub mod LinkLaws
 pub mod CycleLaws
 pub mod KindLaws
 pub mod GateFacts
+pub mod FlatFacts

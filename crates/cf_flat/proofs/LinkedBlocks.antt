@@ -29,7 +29,7 @@ use Rattle.cf_flat.proofs.DriverLaws.{Suits, Align, align-back, align-length, dr
 use Rattle.cf_flat.proofs.BlockLaws.{cover_at, block-at, model-of, aligned-at, call-get}
 use Rattle.cf_flat.proofs.ValueLaws.{get-among, callee-is, output-among}
 
-all-get : {A : Type 0} (P : A → Type 0) (xs : List A) → ((k : ℕ) (x : A) → slice_get xs k ≡ Some x → P x) → All P xs
+pub all-get : {A : Type 0} (P : A → Type 0) (xs : List A) → ((k : ℕ) (x : A) → slice_get xs k ≡ Some x → P x) → All P xs
 all-get P xs h k d l = h k (get_or xs k d) (slice_get-get_or xs k d l)
 
 -- a signal's number is that of a driver

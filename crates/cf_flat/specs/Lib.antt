@@ -1,4 +1,5 @@
 pub mod Flats
+pub mod Flattening
 pub mod Gates
 pub mod Kinds
 pub mod Named
