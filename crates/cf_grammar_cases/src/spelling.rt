@@ -39,6 +39,7 @@ fn spell<W: fmt::Write>(f: &mut fmt::Formatter<W>, statement: &Statement) -> fmt
             write!(f, "let {} = ", text(name))?;
             spell_expr(f, e, DEEPEST)
         }
+        Statement::Load(prefix, file) => write!(f, "load {} {}", text(prefix), text(file)),
         Statement::Value(name, bits) => write!(f, "value {} {}", text(name), text(bits)),
         Statement::First(name, value) => write!(f, "first {} {value}", text(name)),
         Statement::List(name, value, most) => write!(f, "list {} {value} {most}", text(name)),
@@ -48,7 +49,7 @@ fn spell<W: fmt::Write>(f: &mut fmt::Formatter<W>, statement: &Statement) -> fmt
     }
 }
 
-/// The text of a name or of bits, which are ASCII.
+/// The text of a name or of bits, which are ASCII, or of a file's name.
 fn text(word: &[u8]) -> &str {
     str::from_utf8(word).unwrap_or("?")
 }

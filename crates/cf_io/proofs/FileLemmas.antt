@@ -2,7 +2,7 @@ use Rattle.std.proofs.Common.{ℕ, suc, ◌≡◌, ◌+◌, ◌<◌, List, [], m
 use Rattle.std.specs.Option.{option_map, option_map_or}
 use Rattle.std.proofs.lemmas.Option.{slice_get_read}
 use Rattle.std.specs.Str.{bytes_eq}
-use Rattle.cf_io.specs.Opening.{content_of}
+use Rattle.cf_reference.specs.States.{content_of}
 use Rattle.cf_io.specs.Contents.{content_at, name_or_nothing}
 
 abbrev File : Type 0

@@ -1,7 +1,7 @@
 use Rattle.std.specs.Prelude.{ℕ, ◌≡◌, ◌+◌, ◌-◌, ◌++◌, nat_le, min, true, false, List, [], length, take, drop, if◌then◌else◌, is_some}
 use Rattle.cf_io.specs.Causes.{one_more}
 use Rattle.cf_io.specs.Contents.{content_or_nothing, entries_of, name_or_nothing}
-use Rattle.cf_io.specs.Opening.{content_of}
+use Rattle.cf_reference.specs.States.{content_of}
 use Rattle.cf_io.specs.Pieces.{is_listed, piece_length}
 use Rattle.cf_io.specs.Putting.{took}
 use Rattle.cf_io.specs.Reading.{count_of}

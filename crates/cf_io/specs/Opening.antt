@@ -1,5 +1,5 @@
-use Rattle.std.specs.Prelude.{ℕ, ◌≡◌, ◌+◌, Bool, true, false, List, [], ◌∷◌, ◌++◌, take, Option, Some, None, IsTrue, if◌then◌else◌}
-use Rattle.std.specs.Str.{bytes_eq}
+use Rattle.std.specs.Prelude.{ℕ, ◌≡◌, ◌+◌, Bool, true, false, List, [], ◌++◌, take, Option, Some, None, IsTrue}
+use Rattle.cf_reference.specs.States.{content_of}
 use Rattle.cf_io.specs.Causes.{Counts, HasCause}
 use Rattle.cf_io.specs.Reading.{count_of, is_end, is_failed}
 use Rattle.cf_io.specs.Shown.{FilesView, FilesAreTold}
@@ -24,11 +24,6 @@ abbrev pub is_open_failed : Opened → Bool
 is_open_failed opened.Opened = false
 is_open_failed opened.Missing = false
 is_open_failed opened.Failed = true
-
--- the content of the file of this name
-abbrev pub content_of : List (List ℕ × List ℕ) → List ℕ → Option (List ℕ)
-content_of [] name = None
-content_of (e ∷ es) name = if bytes_eq name e.0 then Some e.1 else content_of es name
 
 -- a file that is opened has its whole content left, and only a name that isn't there is missing
 abbrev pub HasContent : Option (List ℕ) → Opened → List ℕ → Type 0

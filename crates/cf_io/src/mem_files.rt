@@ -2,7 +2,7 @@
 
 ghost use Rattle.std.specs.Prelude.{◌≡◌, ℕ, ◌<◌, ◌≤◌, true, length, map, None, IfSome, IfNone};
 ghost use Rattle.cf_io.specs.Contents.{content_at, content_or_nothing, entries_of, name_or_nothing};
-ghost use Rattle.cf_io.specs.Opening.{content_of};
+ghost use Rattle.cf_reference.specs.States.{content_of};
 
 use crate::calls::{Calls, copy_piece};
 use crate::files::{Files, Opened};

@@ -349,6 +349,7 @@ behind_depth text word keyword.Level t bytes all of is h shallow = subst (λ u. 
 behind_depth text word keyword.Var t bytes all of is h shallow = subst (λ u. statement_depth u ≤ 64) (sym h.2) (omega arith)
 behind_depth text word keyword.Let t bytes all of is h shallow =
     subst (λ u. statement_depth u ≤ 64) (sym h.6) (let_depth text word h.0 h.1 all h.2 of is h.3 h.4 h.5 shallow)
+behind_depth text word keyword.Load t bytes all of is h shallow = subst (λ u. statement_depth u ≤ 64) (sym h.4) (omega arith)
 behind_depth text word keyword.Value t bytes all of is h shallow = subst (λ u. statement_depth u ≤ 64) (sym h.5) (omega arith)
 behind_depth text word keyword.First t bytes all of is h shallow = subst (λ u. statement_depth u ≤ 64) (sym h.6) (omega arith)
 behind_depth text word keyword.List t bytes all of is h shallow = subst (λ u. statement_depth u ≤ 64) (sym h.9) (omega arith)

@@ -82,6 +82,7 @@ formed_behind keyword.Var t bytes all h fit = subst IsFormedStatement (sym h.2) 
 formed_behind keyword.Let t bytes all h fit =
     let f : tree_fits h.1 ≡ true = sym (ap statement_fits h.6) ∙ fit in
     subst IsFormedStatement (sym h.6) (formed_tree h.1 h.2 [] h.5 f)
+formed_behind keyword.Load t bytes all h fit = subst IsFormedStatement (sym h.4) tt
 formed_behind keyword.Value t bytes all h fit = subst IsFormedStatement (sym h.5) (bits-digits _ h.4)
 formed_behind keyword.First t bytes all h fit =
     let f : fits h.2 ≡ true = sym (ap statement_fits h.6) ∙ fit in

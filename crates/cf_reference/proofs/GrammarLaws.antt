@@ -139,6 +139,7 @@ unique_behind keyword.Let t u bytes all h k =
     let s = unique h.1 h.2 [] k.1 [] h.5 (subst (λ a. SpellsTree k.1 a []) (sym (tail_is (tail_is (sym h.3 ∙ k.3)))) k.5) in
     let e = s.0 in
     cc
+unique_behind keyword.Load t u bytes all h k = cc
 unique_behind keyword.Value t u bytes all h k = cc
 unique_behind keyword.First t u bytes all h k = cc
 unique_behind keyword.List t u bytes all h k = cc

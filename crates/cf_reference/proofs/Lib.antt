@@ -4,6 +4,7 @@ pub mod GrammarLaws
 pub mod ParsedLaws
 pub mod GrammarExamples
 pub mod ScriptExamples
+pub mod LoadExamples
 pub mod TestFacts
 pub mod ExpressionLaws
 pub mod FailureLaws
@@ -13,6 +14,7 @@ pub mod ParsingLaws
 pub mod ScriptLaws
 pub mod GivesLaws
 pub mod StepLaws
+pub mod LoadLaws
 pub mod FitLaws
 pub mod StateLaws
 pub mod RunStateLaws

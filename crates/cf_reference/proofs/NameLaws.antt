@@ -1,7 +1,7 @@
 -- How names are bound.
 use Rattle.std.proofs.Common.{ℕ, ◌≡◌, ◌≤◌, Bool, true, false, cond, List, [], ◌∷◌, ◌++◌, length, map, Option, Some, None, refl, ap, sym, ◌∙◌, append_assoc}
-use Rattle.std.specs.Prelude.{◌==◌, ◌&&◌, ◌||◌, nat_le, is_some}
-use Rattle.std.specs.List.{list_any, list_all}
+use Rattle.std.specs.Prelude.{◌&&◌, ◌||◌, nat_le, is_some}
+use Rattle.std.specs.List.{list_any}
 use Rattle.std.specs.Option.{option_or, option_map}
 use Rattle.std.specs.Str.{bytes_eq}
 use Rattle.std.proofs.lemmas.Bool.{false≢true}
@@ -12,7 +12,7 @@ use Rattle.cf_model.specs.FlatFunctions.{FlatFunction, variable}
 use Rattle.cf_reference.specs.States.{State, level_in, is_among, position_of, function_named, bind, named, is_bound, repeats, names_in}
 use Rattle.cf_reference.specs.Answers.{spelled}
 use Rattle.cf_reference.specs.Carrying.{clashes}
-use Rattle.cf_reference.proofs.TestFacts.{same_bytes, left, right, is_le}
+use Rattle.cf_reference.proofs.TestFacts.{same_bytes, is_le}
 
 equal_bytes : (xs ys : List ℕ) → xs ≡ ys → bytes_eq xs ys ≡ true
 equal_bytes xs ys e = (bytes_eq-Decides xs ys).1 e
@@ -205,11 +205,11 @@ repeats_append (word ∷ a) b =
     shuffle false false false true w = refl
     shuffle false false false false w = refl
 
-or_first : (a b : Bool) → a || b ≡ false → a ≡ false
+pub or_first : (a b : Bool) → a || b ≡ false → a ≡ false
 or_first true b e = e
 or_first false b e = refl
 
-or_second : (a b : Bool) → a || b ≡ false → b ≡ false
+pub or_second : (a b : Bool) → a || b ≡ false → b ≡ false
 or_second true b e = absurd (false≢true (sym e))
 or_second false b e = e
 

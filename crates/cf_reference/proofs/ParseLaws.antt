@@ -7,11 +7,11 @@ use Rattle.std.proofs.lemmas.Slice.Eq.{bytes_eq-Decides}
 use Rattle.std.proofs.lemmas.Bool.{and_parts, and_from, or_cases, leb-true, leb-false, le-leb}
 use Rattle.cf_reference.specs.declared.grammar.Keyword.{Keyword}
 use Rattle.cf_reference.specs.declared.grammar.Keyword.TheVariants as keyword
-use Rattle.cf_reference.specs.Words.{before_comment, behind_word, words_of_line, equals, natural, number, is_name, is_bits}
-use Rattle.cf_reference.specs.Trees.{Tree, Statement, Level, Vars, Let, Value, First, Listed, Equal, Size, statement_fits}
+use Rattle.cf_reference.specs.Words.{before_comment, behind_word, words_of_line, equals, pieces, natural, number, is_name, is_bits}
+use Rattle.cf_reference.specs.Trees.{Tree, Statement, Level, Vars, Let, Load, Value, First, Listed, Equal, Size, statement_fits}
 use Rattle.cf_reference.specs.Grammar.{keyword_of, SpellsBehind, SpellsWords, Spells}
 use Rattle.cf_reference.specs.LineRefusals.{Parsed, TooDeep, WideNumber, Good, IsDeep, Parses}
-use Rattle.cf_reference.specs.Parsing.{TreeAt, readers, defined, listed, behind, keyed, statement_at, some_prefix, is_deep, judged, parse, LinesParse}
+use Rattle.cf_reference.specs.Parsing.{TreeAt, readers, defined, listed, loaded_from, behind, keyed, statement_at, some_prefix, is_deep, judged, parse, LinesParse}
 use Rattle.cf_reference.proofs.GrammarLaws.{some_is}
 use Rattle.cf_reference.proofs.ParsedLaws.{parse_once}
 use Rattle.cf_reference.proofs.ParsingLaws.{whole-found, found-sound}
@@ -64,6 +64,15 @@ let_sound bytes (name ∷ sign ∷ rest) t h = at (is_name name) (bytes_eq sign 
         (name, d.0, rest, ap (λ w. name ∷ w ∷ rest) ((bytes_eq-Decides sign equals).0 is), named, found-sound d.0 rest [] (length rest) d.1, d.2)
     at true false named is k = cc
     at false y named is k = cc
+
+load_sound : (bytes : List ℕ) (all : List (List ℕ)) (t : Statement) → behind keyword.Load bytes all ≡ Some t → SpellsBehind keyword.Load t bytes all
+load_sound bytes all t h = at (pieces bytes) refl h
+  where
+    at : (ps : List (List ℕ)) → pieces bytes ≡ ps → loaded_from ps ≡ Some t → SpellsBehind keyword.Load t bytes all
+    at [] is k = cc
+    at (prefix ∷ []) is k = cc
+    at (prefix ∷ file ∷ []) is k = let m = tested (is_name prefix) (Load prefix file) t k in (prefix, file, is, m.0, m.1)
+    at (prefix ∷ file ∷ more ∷ rest) is k = cc
 
 value_sound : (bytes : List ℕ) (all : List (List ℕ)) (t : Statement) → behind keyword.Value bytes all ≡ Some t → SpellsBehind keyword.Value t bytes all
 value_sound bytes [] t h = cc
@@ -118,6 +127,7 @@ behind_sound : (key : Keyword) (bytes : List ℕ) (all : List (List ℕ)) (t : S
 behind_sound keyword.Level bytes all t h = level_sound bytes all t h
 behind_sound keyword.Var bytes all t h = vars_sound bytes all t h
 behind_sound keyword.Let bytes all t h = let_sound bytes all t h
+behind_sound keyword.Load bytes all t h = load_sound bytes all t h
 behind_sound keyword.Value bytes all t h = value_sound bytes all t h
 behind_sound keyword.First bytes all t h = first_sound bytes all t h
 behind_sound keyword.List bytes all t h = list_sound bytes all t h
@@ -134,6 +144,7 @@ behind_found keyword.Level bytes all t h = ap (behind keyword.Level bytes) h.2 �
 behind_found keyword.Var bytes all t h = chosen (nat_le 1 (length all) && list_all is_name all) (Vars all) (and_from (nat_le 1 (length all)) (list_all is_name all) h.0 h.1) ∙ ap Some (sym h.2)
 behind_found keyword.Let bytes all t h =
     ap (behind keyword.Let bytes) h.3 ∙ ap (λ b. cond (b && true) (defined h.0 ((readers (length h.2)).tree_at h.2)) None) h.4 ∙ ap (defined h.0) (whole-found h.1 h.2 h.5) ∙ ap Some (sym h.6)
+behind_found keyword.Load bytes all t h = ap loaded_from h.2 ∙ chosen (is_name h.0) (Load h.0 h.1) h.3 ∙ ap Some (sym h.4)
 behind_found keyword.Value bytes all t h = ap (behind keyword.Value bytes) h.2 ∙ chosen (is_name h.0 && is_bits h.1) (Value h.0 h.1) (and_from (is_name h.0) (is_bits h.1) h.3 h.4) ∙ ap Some (sym h.5)
 behind_found keyword.First bytes all t h =
     ap (behind keyword.First bytes) h.3 ∙ ap (λ b. cond b (option_map (First h.0) (number h.1)) None) h.4 ∙ ap (option_map (First h.0)) h.5 ∙ ap Some (sym h.6)

@@ -1,6 +1,6 @@
 -- What holds of each state that a run reaches.
 use Rattle.std.proofs.Common.{ℕ, ℤ, suc, ◌≡◌, ◌≤◌, ◌<◌, ◌+◌, ◌^◌, pos, Bool, length-append, true, false, cond, List, [], ◌∷◌, ◌++◌, length, Option, Some, None, refl, ap, sym, subst, ◌∙◌, arith}
-use Rattle.std.specs.Prelude.{All, unwrap_or, int_le, int_lt, nat_abs, nat_lt, is_some, is_none, not, negsuc, ◌==◌}
+use Rattle.std.specs.Prelude.{All, unwrap_or, int_le, int_lt, nat_abs, nat_lt, nat_le, ◌||◌, is_some, is_none, not, negsuc, ◌==◌}
 use Rattle.std.specs.Option.{option_or, option_map}
 use Rattle.std.specs.Str.{bytes_eq}
 use Rattle.std.proofs.lemmas.Bool.{false≢true}
@@ -13,19 +13,26 @@ use Rattle.cf_model.specs.Terms.{truth}
 use Rattle.cf_model.specs.FlatFunctions.{FlatFunction, IsFlatFunction, value_at, variable, tabulated}
 use Rattle.cf_model.proofs.FlatFunctionLaws.{fits_decides, tabulated-full}
 use Rattle.cf_model.proofs.TermLaws.{fitting-some}
-use Rattle.cf_reference.specs.Trees.{Tree, Num, At, Named, Call, tree_fits, Statement, Empty, Level, Vars, Let, Value, First, Listed, Equal, Size, Stats, statement_fits}
-use Rattle.cf_reference.specs.Reasons.{Refusal, NoLevel, LevelAgain, NoName, Taken, TooManyVariables, LevelsDiffer, BadLevel, Overflow, where_holds}
-use Rattle.cf_reference.specs.States.{State, Files, IsState, initial, level_in, is_below, is_among, position_of, function_named, bind, named, is_bound, nothing}
+use Rattle.cf_reference.specs.Trees.{Tree, Num, At, Named, Call, tree_fits, Statement, Empty, Level, Vars, Let, Load, Value, First, Listed, Equal, Size, Stats, statement_fits}
+use Rattle.cf_reference.specs.Reasons.{Refusal, NoLevel, LevelAgain, NoName, Taken, TooManyVariables, LevelsDiffer, BadLevel, Overflow, FileTooLarge, Circuit, Links, where_holds}
+use Rattle.cf_reference.specs.States.{State, Files, IsState, content_of, initial, level_in, is_below, is_among, position_of, function_named, bind, named, is_bound, nothing}
+use Rattle.cf_circuits.specs.declared.models.ModelDef.{ModelDef}
+use Rattle.cf_circuits.specs.Causes.{fault}
+use Rattle.cf_circuits.specs.Expansions.{circuit_value}
+use Rattle.cf_circuits.specs.LinkFaults.{link}
+use Rattle.cf_circuits.specs.Netlists.{net}
+use Rattle.cf_circuits.specs.Roots.{inputs_of, outputs_of}
+use Rattle.cf_reference.specs.Loading.{file_limit, with_input, with_inputs, input_refusal, inputs_refusal, output_name, outputs_clash, with_outputs, input_bits, output_function, declared_for, with_circuit}
 use Rattle.cf_reference.specs.Answers.{equal_answer}
 use Rattle.cf_reference.specs.Calls.{exact, call_refusal}
 use Rattle.cf_reference.specs.Expressions.{part, meant, level, walk, walks, value}
 use Rattle.cf_reference.specs.Failures.{over}
-use Rattle.cf_reference.specs.Carrying.{Outcome, Goes, unless_refused, needs_level, with_function, asks, clashes, have_room, function_from, set_level, declare, define, tell_value, tell_first, tell_list, tell_equal, tell_size, tell_stats, step}
+use Rattle.cf_reference.specs.Carrying.{Outcome, Goes, unless_refused, needs_level, with_function, with_content, load_bytes, load_circuit, asks, clashes, have_room, function_from, set_level, declare, define, tell_value, tell_first, tell_list, tell_equal, tell_size, tell_stats, step}
 use Rattle.cf_reference.specs.Scripts.{state_of, refuses}
 use Rattle.cf_reference.proofs.FitLaws.{truth_fits}
-use Rattle.cf_reference.proofs.NameLaws.{differ-vars, differ-let}
+use Rattle.cf_reference.proofs.NameLaws.{or_first, or_second, differ-vars, differ-let}
 use Rattle.cf_reference.proofs.WalkLaws.{refusal-low}
-use Rattle.cf_reference.proofs.TestFacts.{and_then_some, or_none_second, unless_none, right, le_is}
+use Rattle.cf_reference.proofs.TestFacts.{and_then_some, or_none_first, or_none_second, unless_none, right, le_is}
 
 pub initial-holds : IsState initial
 initial-holds = record { low = omega arith; unset = λ e. (refl, refl); room = omega arith; flat = All-nil _; differ = refl }
@@ -226,6 +233,94 @@ define_holds s u name e reply h fit g =
       differ = differ-let s name (function_from s e) h.differ (holds_not (is_among s.variables name) Taken free.0);
     })
 
+-- a level is set
+abbrev HasLevel : State → Type 0
+HasLevel s = s.level ≡ None → ⊥
+
+less_not : (m k : ℕ) → nat_le m k ≡ false → k < m
+less_not m k e = grind (arith, nat_tests)
+
+input_holds : (s : State) (name : List ℕ) → IsState s → HasLevel s → input_refusal s name ≡ None → IsState (with_input s name)
+input_holds s name h set e = by (is_among s.variables name) e
+  where
+    by : (b : Bool)
+        → cond b None (option_or (where_holds (is_bound s name) Taken) (where_holds (nat_le (2 ^ level_in s) (length s.variables)) TooManyVariables)) ≡ None
+        → IsState (record s { variables = cond b s.variables (s.variables ++ name ∷ []) })
+    by true k = record { low = h.low; unset = λ n. absurd (set n); room = h.room; flat = h.flat; differ = h.differ }
+    by false k =
+        let free = holds_not (is_bound s name) Taken (or_none_first (where_holds (is_bound s name) Taken) _ k) in
+        let full = or_none_second (where_holds (is_bound s name) Taken) _ k in
+        let room = less_not (2 ^ level_in s) (length s.variables) (holds_not _ TooManyVariables full) in
+        record {
+          low = h.low;
+          unset = λ n. absurd (set n);
+          room = subst (λ (m : ℕ). m ≤ 2 ^ level_in s) (sym (length-append s.variables (name ∷ []))) (omega (arith, room));
+          flat = h.flat;
+          differ = differ-vars s (name ∷ []) h.differ (ap (λ b. (b || false) || false) free);
+        }
+
+inputs_hold : (s : State) (names : List (List ℕ)) → IsState s → HasLevel s → inputs_refusal s names ≡ None
+    → IsState (with_inputs s names) × HasLevel (with_inputs s names)
+inputs_hold s [] h set e = (h, set)
+inputs_hold s (name ∷ later) h set e =
+    inputs_hold (with_input s name) later
+    (input_holds s name h set (or_none_first (input_refusal s name) (inputs_refusal (with_input s name) later) e)) set
+    (or_none_second (input_refusal s name) (inputs_refusal (with_input s name) later) e)
+
+outputs_hold : (s : State) (prefix : List ℕ) (function : List ℕ → FlatFunction) (outputs : List (List ℕ)) → IsState s → HasLevel s
+    → ((output : List ℕ) → IsFlatFunction (function output)) → outputs_clash s prefix outputs ≡ false
+    → IsState (with_outputs s prefix function outputs)
+outputs_hold s prefix function [] h set flat free = h
+outputs_hold s prefix function (output ∷ later) h set flat free =
+    let name = output_name prefix output in
+    let here = or_first (is_among s.variables name) (outputs_clash s prefix later) free in
+    outputs_hold (record s { functions = bind s.functions name (function output) }) prefix function later
+    (record {
+      low = h.low;
+      unset = λ n. absurd (set n);
+      room = h.room;
+      flat = bind_flat s.functions name (function output) h.flat (flat output);
+      differ = differ-let s name (function output) h.differ here;
+    })
+    set flat (or_second (is_among s.variables name) (outputs_clash s prefix later) free)
+
+-- the function of an output is a flat function
+pub output_function-flat : (s : State) (models : List ModelDef) (output : List ℕ) → IsState s
+    → IsFlatFunction (output_function s models output)
+output_function-flat s models output h =
+    tabulated_flat (level_in s) (λ bits. truth (circuit_value models (input_bits s.variables (inputs_of models) bits) output)) h.low
+    (λ bits. truth_fits (circuit_value models (input_bits s.variables (inputs_of models) bits) output))
+
+bytes_hold : (s u : State) (prefix bytes reply : List ℕ) → IsState s → HasLevel s → load_bytes s prefix bytes ≡ Goes u reply
+    → IsState u
+bytes_hold s u prefix bytes reply h set e =
+    let models = net bytes in
+    let goes = Goes (with_circuit s prefix models) [] in
+    let inputs = inputs_refusal s (inputs_of models) in
+    let clash = outputs_clash (declared_for s models) prefix (outputs_of models) in
+    let last = where_holds clash Taken in
+    let short = unless_refused-passes (where_holds (nat_lt file_limit (length bytes)) FileTooLarge) (option_map Circuit (fault bytes) ∷ option_map Links (link models) ∷ inputs ∷ last ∷ []) goes u reply e in
+    let good = unless_refused-passes (option_map Circuit (fault bytes)) (option_map Links (link models) ∷ inputs ∷ last ∷ []) goes u reply short.1 in
+    let linked = unless_refused-passes (option_map Links (link models)) (inputs ∷ last ∷ []) goes u reply good.1 in
+    let walked = unless_refused-passes inputs (last ∷ []) goes u reply linked.1 in
+    let free = unless_refused-passes last [] goes u reply walked.1 in
+    let t = inputs_hold s (inputs_of models) h set walked.0 in
+    subst (λ (v : State). IsState v) (ap (state_of s) free.1)
+    (outputs_hold (declared_for s models) prefix (output_function (declared_for s models) models) (outputs_of models) t.0 t.1
+    (λ output. output_function-flat (declared_for s models) models output t.0) (holds_not clash Taken free.0))
+
+load_holds : (files : Files) (s u : State) (prefix file reply : List ℕ) → IsState s → load_circuit files s prefix file ≡ Goes u reply
+    → IsState u
+unfolding load_circuit
+load_holds files s u prefix file reply h e =
+    let found = with_content (content_of files file) (load_bytes s prefix) in
+    let lack = unless_refused-passes (needs_level s) [] found u reply e in
+    by (content_of files file) (lack_none s lack.0) lack.1
+  where
+    by : (content : Option (List ℕ)) → HasLevel s → with_content content (load_bytes s prefix) ≡ Goes u reply → IsState u
+    by None set k = absurd (false≢true (sym (ap refuses k)))
+    by (Some bytes) set k = bytes_hold s u prefix bytes reply h set k
+
 -- A statement that isn't refused leads to such a state again.
 pub step-holds : (files : Files) (s u : State) (t : Statement) (reply : List ℕ) → IsState s → statement_fits t ≡ true
     → step files s t ≡ Goes u reply → IsState u
@@ -234,6 +329,7 @@ step-holds files s u Empty reply h fit e = subst (λ (v : State). IsState v) (ke
 step-holds files s u (Level n) reply h fit e = set_holds s u n reply h e
 step-holds files s u (Vars names) reply h fit e = declare_holds s u names reply h e
 step-holds files s u (Let name t) reply h fit e = define_holds s u name t reply h fit e
+step-holds files s u (Load prefix file) reply h fit e = load_holds files s u prefix file reply h e
 step-holds files s u (Value name bits) reply h fit e =
     subst (λ (v : State). IsState v) (keeps_asked s name _ (λ f. keeps_unless s _ [] _ (keeps_here s _)) u reply e) h
 step-holds files s u (First name n) reply h fit e =

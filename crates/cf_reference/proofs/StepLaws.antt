@@ -5,7 +5,7 @@ use Rattle.std.specs.Option.{option_map, option_or}
 use Rattle.std.proofs.lemmas.Option.{same_Some, none-some}
 use Rattle.std.proofs.lemmas.Bool.Decides.{nat_tests}
 use Rattle.cf_model.specs.FlatFunctions.{FlatFunction}
-use Rattle.cf_reference.specs.Trees.{Tree, Statement, Empty, Level, Vars, Let, Value, First, Listed, Equal, Size, Stats}
+use Rattle.cf_reference.specs.Trees.{Tree, Statement, Empty, Level, Vars, Let, Load, Value, First, Listed, Equal, Size, Stats}
 use Rattle.cf_reference.specs.Reasons.{Refusal, NoLevel, LevelAgain, NoName, Taken, TooManyVariables, LevelsDiffer, BadLevel, OutOfRange, Overflow, where_holds}
 use Rattle.cf_reference.specs.Replies.{value_reply}
 use Rattle.cf_reference.specs.States.{State, Files, is_below, is_among, bind, named, at}
@@ -13,7 +13,7 @@ use Rattle.cf_reference.specs.Expressions.{walk}
 use Rattle.cf_reference.specs.Failures.{over}
 use Rattle.cf_reference.specs.Gives.{GivesTree}
 use Rattle.cf_reference.specs.Answers.{spelled, first_answer, list_answer, equal_answer, size_answer, stats_answer}
-use Rattle.cf_reference.specs.Carrying.{Outcome, Refuses, Goes, unless_refused, needs_level, with_function, asks, clashes, have_room, lists, function_from, set_level, declare, define, tell_value, tell_first, tell_list, tell_equal, tell_size, tell_stats, step}
+use Rattle.cf_reference.specs.Carrying.{Outcome, Refuses, Goes, unless_refused, needs_level, with_function, asks, clashes, have_room, lists, function_from, set_level, declare, define, load_circuit, tell_value, tell_first, tell_list, tell_equal, tell_size, tell_stats, step}
 use Rattle.cf_reference.proofs.TestFacts.{or_none_first, or_none_second}
 use Rattle.cf_reference.proofs.GivesLaws.{gives-let}
 
@@ -38,11 +38,12 @@ WantsLevel other = Unit {0}
 -- where no level is set, only these two are carried out
 pub step-without : (files : Files) (s : State) (t : Statement) → s.level ≡ None → WantsLevel t
     → step files s t ≡ Refuses NoLevel
-unfolding declare define tell_value tell_first tell_list tell_equal tell_size tell_stats
+unfolding declare define load_circuit tell_value tell_first tell_list tell_equal tell_size tell_stats
 step-without files s Empty none h = absurd h
 step-without files s (Level n) none h = absurd h
 step-without files s (Vars names) none h = without s _ _ none
 step-without files s (Let name e) none h = without s _ _ none
+step-without files s (Load prefix file) none h = without s [] _ none
 step-without files s (Value name bits) none h = without_asked s name _ none
 step-without files s (First name n) none h = without_asked s name _ none
 step-without files s (Listed name n most) none h = without_asked s name _ none
@@ -218,6 +219,7 @@ step-NoName files s k Empty name l same e = absurd same
 step-NoName files s k (Level n) name l same e = absurd same
 step-NoName files s k (Vars names) name l same e = absurd same
 step-NoName files s k (Let n t) name l same e = absurd same
+step-NoName files s k (Load prefix file) name l same e = absurd same
 step-NoName files s k (Equal n other) name l same e = absurd same
 step-NoName files s k Stats name l same e = absurd same
 

@@ -29,6 +29,9 @@ comma = 44
 abbrev pub minus : ℕ
 minus = 45
 
+abbrev pub dot : ℕ
+dot = 46
+
 abbrev pub digit_0 : ℕ
 digit_0 = 48
 

@@ -1,14 +1,19 @@
-use Rattle.std.specs.Prelude.{ℕ, ℤ, pos, ◌+◌, ◌^◌, ◌==◌, ◌&&◌, ◌||◌, nat_le, int_le, nat_abs, not, is_none, is_some, Bool, List, [], ◌∷◌, ◌++◌, length, Option, Some, None}
+use Rattle.std.specs.Prelude.{ℕ, ℤ, pos, ◌+◌, ◌^◌, ◌==◌, ◌&&◌, ◌||◌, nat_lt, nat_le, int_le, nat_abs, not, is_none, is_some, Bool, List, [], ◌∷◌, ◌++◌, length, Option, Some, None}
 use Rattle.std.specs.List.{list_any}
 use Rattle.std.specs.Option.{option_map}
 use Rattle.cf_model.specs.FlatFunctions.{FlatFunction}
-use Rattle.cf_reference.specs.Trees.{Tree, Statement, Empty, Level, Vars, Let, Value, First, Listed, Equal, Size, Stats}
-use Rattle.cf_reference.specs.Reasons.{Refusal, NoLevel, LevelAgain, NoName, Taken, TooManyVariables, LevelsDiffer, BadLevel, OutOfRange, Overflow, where_holds}
+use Rattle.cf_circuits.specs.Causes.{fault}
+use Rattle.cf_circuits.specs.LinkFaults.{link}
+use Rattle.cf_circuits.specs.Netlists.{net}
+use Rattle.cf_circuits.specs.Roots.{inputs_of, outputs_of}
+use Rattle.cf_reference.specs.Trees.{Tree, Statement, Empty, Level, Vars, Let, Load, Value, First, Listed, Equal, Size, Stats}
+use Rattle.cf_reference.specs.Reasons.{Refusal, NoLevel, LevelAgain, NoName, Taken, TooManyVariables, LevelsDiffer, BadLevel, OutOfRange, Overflow, NoFile, FileTooLarge, Circuit, Links, where_holds}
 use Rattle.cf_reference.specs.Replies.{value_reply}
-use Rattle.cf_reference.specs.States.{State, Files, level_in, is_below, is_among, bind, named, is_bound, repeats, at}
+use Rattle.cf_reference.specs.States.{State, Files, content_of, level_in, is_below, is_among, bind, named, is_bound, repeats, at}
 use Rattle.cf_reference.specs.Calls.{flat}
 use Rattle.cf_reference.specs.Expressions.{part, walk}
 use Rattle.cf_reference.specs.Failures.{over}
+use Rattle.cf_reference.specs.Loading.{file_limit, inputs_refusal, outputs_clash, declared_for, with_circuit}
 use Rattle.cf_reference.specs.Answers.{spelled, first_answer, list_answer, equal_answer, size_answer, stats_answer}
 
 -- What a statement does: it is refused, or leads to a state with a reply.
@@ -69,6 +74,27 @@ define s name e =
     (needs_level s ∷ where_holds (is_among s.variables name) Taken ∷ walk s e ∷ option_map Overflow (over s e) ∷ [])
     (Goes (record s { functions = bind s.functions name (function_from s e) }) [])
 
+-- what is done with the content of a file, which is refused where there is none
+abbrev pub with_content : Option (List ℕ) → (List ℕ → Outcome) → Outcome
+with_content None outcome = Refuses NoFile
+with_content (Some bytes) outcome = outcome bytes
+
+-- Of a file's bytes their number is tested first, then the text, the links and the names: the inputs, and then the outputs.
+abbrev pub load_bytes : State → List ℕ → List ℕ → Outcome
+load_bytes s prefix bytes =
+    unless_refused
+    (where_holds (nat_lt file_limit (length bytes)) FileTooLarge
+    ∷ option_map Circuit (fault bytes)
+    ∷ option_map Links (link (net bytes))
+    ∷ inputs_refusal s (inputs_of (net bytes))
+    ∷ where_holds (outputs_clash (declared_for s (net bytes)) prefix (outputs_of (net bytes))) Taken
+    ∷ [])
+    (Goes (with_circuit s prefix (net bytes)) [])
+
+unfoldable pub load_circuit : Files → State → List ℕ → List ℕ → Outcome
+load_circuit files s prefix file =
+    unless_refused (needs_level s ∷ []) (with_content (content_of files file) (load_bytes s prefix))
+
 -- a question about the function of a name
 abbrev pub asks : State → List ℕ → (FlatFunction → Outcome) → Outcome
 asks s name answer = unless_refused (needs_level s ∷ []) (with_function (named s name) answer)
@@ -98,12 +124,13 @@ tell_size s name = asks s name (λ f. Goes s (size_answer f))
 unfoldable pub tell_stats : State → Outcome
 tell_stats s = unless_refused (needs_level s ∷ []) (Goes s (stats_answer s))
 
--- What a statement does in a state. The files are there for a statement that reads one; no statement does yet.
+-- What a statement does in a state, where there are these files.
 abbrev pub step : Files → State → Statement → Outcome
 step files s Empty = Goes s []
 step files s (Level n) = set_level s n
 step files s (Vars names) = declare s names
 step files s (Let name e) = define s name e
+step files s (Load prefix file) = load_circuit files s prefix file
 step files s (Value name bits) = tell_value s name bits
 step files s (First name n) = tell_first s name n
 step files s (Listed name n most) = tell_list s name n most

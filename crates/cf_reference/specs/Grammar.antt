@@ -6,8 +6,8 @@ use Rattle.cf_reference.specs.declared.grammar.Keyword.{Keyword}
 use Rattle.cf_reference.specs.declared.grammar.Keyword.TheVariants as keyword
 use Rattle.cf_reference.specs.declared.grammar.Head.{Head}
 use Rattle.cf_reference.specs.Heads.{Kind, AnExpression, AVariable, ANatural, ANumber, ABit, head_of, takes, kind_at}
-use Rattle.cf_reference.specs.Words.{before_comment, behind_word, words_of_line, open_sign, close_sign, comma, equals, natural, number, place, is_name, is_bits}
-use Rattle.cf_reference.specs.Trees.{Atom, Variable, Position, Number, Tree, Num, At, Named, Call, Arguments, none, more, atom, count, Statement, Empty, Level, Vars, Let, Value, First, Listed, Equal, Size, Stats}
+use Rattle.cf_reference.specs.Words.{before_comment, behind_word, words_of_line, open_sign, close_sign, comma, equals, pieces, natural, number, place, is_name, is_bits}
+use Rattle.cf_reference.specs.Trees.{Atom, Variable, Position, Number, Tree, Num, At, Named, Call, Arguments, none, more, atom, count, Statement, Empty, Level, Vars, Let, Load, Value, First, Listed, Equal, Size, Stats}
 
 -- The grammar of a line, over its words.
 
@@ -17,6 +17,7 @@ keyword_of word =
     if bytes_eq word (codes "level") then Some keyword.Level
     else if bytes_eq word (codes "var") then Some keyword.Var
     else if bytes_eq word (codes "let") then Some keyword.Let
+    else if bytes_eq word (codes "load") then Some keyword.Load
     else if bytes_eq word (codes "value") then Some keyword.Value
     else if bytes_eq word (codes "first") then Some keyword.First
     else if bytes_eq word (codes "list") then Some keyword.List
@@ -109,13 +110,16 @@ abbrev mutual
   SpellsArguments head i (atom a es) all rest =
       (mid : List (List ℕ)) × SpellsAtom i (kind_at head i) a all mid × SpellsArguments head (suc i) es mid rest
 
--- The bytes behind the first word, and their words, spell the statement, by cases on what the first word says.
+-- The bytes behind the first word, and their words, spell the statement, by cases on what the first word says. The name of a
+-- file may have signs in it, so `load` is spelled by pieces.
 abbrev pub SpellsBehind : Keyword → Statement → List ℕ → List (List ℕ) → Type 0
 SpellsBehind keyword.Level t bytes all = (k : List ℕ) × (n : ℤ) × (all ≡ k ∷ []) × (natural k ≡ Some n) × (t ≡ Level n)
 SpellsBehind keyword.Var t bytes all = IsTrue (nat_le 1 (length all)) × IsTrue (list_all is_name all) × (t ≡ Vars all)
 SpellsBehind keyword.Let t bytes all =
     (name : List ℕ) × (e : Tree) × (rest : List (List ℕ)) × (all ≡ name ∷ equals ∷ rest)
     × IsTrue (is_name name) × SpellsTree e rest [] × (t ≡ Let name e)
+SpellsBehind keyword.Load t bytes all =
+    (prefix : List ℕ) × (file : List ℕ) × (pieces bytes ≡ prefix ∷ file ∷ []) × IsTrue (is_name prefix) × (t ≡ Load prefix file)
 SpellsBehind keyword.Value t bytes all =
     (name : List ℕ) × (bits : List ℕ) × (all ≡ name ∷ bits ∷ [])
     × IsTrue (is_name name) × IsTrue (is_bits bits) × (t ≡ Value name bits)

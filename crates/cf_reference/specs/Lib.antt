@@ -13,6 +13,7 @@ pub mod Expressions
 pub mod Failures
 pub mod Parsing
 pub mod Answers
+pub mod Loading
 pub mod Carrying
 pub mod Scripts
 pub mod Gives

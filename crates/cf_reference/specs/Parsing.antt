@@ -6,8 +6,8 @@ use Rattle.cf_reference.specs.declared.grammar.Keyword.{Keyword}
 use Rattle.cf_reference.specs.declared.grammar.Keyword.TheVariants as keyword
 use Rattle.cf_reference.specs.declared.grammar.Head.{Head}
 use Rattle.cf_reference.specs.Heads.{Kind, AnExpression, head_of, takes, kind_at}
-use Rattle.cf_reference.specs.Words.{before_comment, behind_word, words, open_sign, close_sign, comma, equals, natural, number, is_name, is_bits}
-use Rattle.cf_reference.specs.Trees.{Atom, Tree, Arguments, Call, none, more, atom, count, Statement, Empty, Level, Vars, Let, Value, First, Listed, Equal, Size, Stats, statement_fits}
+use Rattle.cf_reference.specs.Words.{before_comment, behind_word, words, open_sign, close_sign, comma, equals, pieces, natural, number, is_name, is_bits}
+use Rattle.cf_reference.specs.Trees.{Atom, Tree, Arguments, Call, none, more, atom, count, Statement, Empty, Level, Vars, Let, Load, Value, First, Listed, Equal, Size, Stats, statement_fits}
 use Rattle.cf_reference.specs.Grammar.{keyword_of, leaf, atom_of}
 use Rattle.cf_reference.specs.Bytes as byte
 use Rattle.cf_reference.specs.LineRefusals.{Parsed, TooDeep, Malformed, WideNumber, Good, Parses}
@@ -89,12 +89,18 @@ abbrev pub listed : List ℕ → Option ℤ → Option ℤ → Option Statement
 listed name (Some n) (Some most) = Some (Listed name n most)
 listed name n most = None
 
+-- what pieces load
+abbrev pub loaded_from : List (List ℕ) → Option Statement
+loaded_from (prefix ∷ file ∷ []) = if is_name prefix then Some (Load prefix file) else None
+loaded_from others = None
+
 -- the statement that the bytes behind a keyword, with their words, spell
 abbrev pub behind : Keyword → List ℕ → List (List ℕ) → Option Statement
 behind keyword.Level bytes (k ∷ []) = option_map Level (natural k)
 behind keyword.Var bytes all = if nat_le 1 (length all) && list_all is_name all then Some (Vars all) else None
 behind keyword.Let bytes (name ∷ sign ∷ rest) =
     if is_name name && bytes_eq sign equals then defined name ((readers (length rest)).tree_at rest) else None
+behind keyword.Load bytes all = loaded_from (pieces bytes)
 behind keyword.Value bytes (name ∷ bits ∷ []) = if is_name name && is_bits bits then Some (Value name bits) else None
 behind keyword.First bytes (name ∷ v ∷ []) = if is_name name then option_map (First name) (number v) else None
 behind keyword.List bytes (name ∷ v ∷ m ∷ []) = if is_name name then listed name (number v) (natural m) else None

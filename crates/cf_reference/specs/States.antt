@@ -16,6 +16,11 @@ pub record State : Type 0 where
 abbrev pub Files : Type 0
 Files = List (List ℕ × List ℕ)
 
+-- the content of the file of this name
+abbrev pub content_of : Files → List ℕ → Option (List ℕ)
+content_of [] name = None
+content_of (file ∷ files) name = if bytes_eq name file.0 then Some file.1 else content_of files name
+
 -- neither a level nor names
 abbrev pub initial : State
 initial = record { level = None; variables = []; functions = [] }

@@ -36,6 +36,8 @@ pub data Statement : Type 0 where
   Level : ℤ → Statement
   Vars : List (List ℕ) → Statement
   Let : List ℕ → Tree → Statement
+  -- a prefix, and the name of a file
+  Load : List ℕ → List ℕ → Statement
   Value : List ℕ → List ℕ → Statement
   First : List ℕ → ℤ → Statement
   Listed : List ℕ → ℤ → ℤ → Statement

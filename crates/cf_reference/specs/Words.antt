@@ -41,6 +41,18 @@ words (b ∷ rest) =
     else if begins_run rest then lengthen b (words rest)
     else (b ∷ []) ∷ words rest
 
+abbrev pub begins_piece : List ℕ → Bool
+begins_piece [] = false
+begins_piece (b ∷ rest) = not (is_blank b)
+
+-- The pieces of a text, which are cut at blanks alone: each longest run of bytes other than blanks.
+unfoldable pub pieces : List ℕ → List (List ℕ)
+pieces [] = []
+pieces (b ∷ rest) =
+    if is_blank b then pieces rest
+    else if begins_piece rest then lengthen b (pieces rest)
+    else (b ∷ []) ∷ pieces rest
+
 -- the bytes behind a run
 unfoldable pub behind_run : List ℕ → List ℕ
 behind_run [] = []

@@ -11,6 +11,8 @@ pub enum Keyword {
     Var,
     /// `let NAME = EXPR`
     Let,
+    /// `load PREFIX FILE`
+    Load,
     /// `value NAME BITS`
     Value,
     /// `first NAME NUMBER`

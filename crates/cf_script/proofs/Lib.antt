@@ -1,4 +1,5 @@
 pub mod WordFacts
+pub mod PieceFacts
 pub mod NumberFacts
 pub mod Rows
 pub mod ReadingFacts

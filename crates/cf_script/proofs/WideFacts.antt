@@ -192,10 +192,11 @@ keyword-memory word rest key h keeps =
     entry_of word (codes "level") _ _ key (λ w. takes_memory (w ∷ rest) ≡ true) (λ e. forgets keyword.Level key (takes_memory (codes "level" ∷ rest) ≡ true) refl keeps e) h (λ h.
     entry_of word (codes "var") _ _ key (λ w. takes_memory (w ∷ rest) ≡ true) (λ e. refl) h (λ h.
     entry_of word (codes "let") _ _ key (λ w. takes_memory (w ∷ rest) ≡ true) (λ e. refl) h (λ h.
+    entry_of word (codes "load") _ _ key (λ w. takes_memory (w ∷ rest) ≡ true) (λ e. forgets keyword.Load key (takes_memory (codes "load" ∷ rest) ≡ true) refl keeps e) h (λ h.
     entry_of word (codes "value") _ _ key (λ w. takes_memory (w ∷ rest) ≡ true) (λ e. forgets keyword.Value key (takes_memory (codes "value" ∷ rest) ≡ true) refl keeps e) h (λ h.
     entry_of word (codes "first") _ _ key (λ w. takes_memory (w ∷ rest) ≡ true) (λ e. forgets keyword.First key (takes_memory (codes "first" ∷ rest) ≡ true) refl keeps e) h (λ h.
     entry_of word (codes "list") _ _ key (λ w. takes_memory (w ∷ rest) ≡ true) (λ e. forgets keyword.List key (takes_memory (codes "list" ∷ rest) ≡ true) refl keeps e) h (λ h.
     entry_of word (codes "equal") _ _ key (λ w. takes_memory (w ∷ rest) ≡ true) (λ e. forgets keyword.Equal key (takes_memory (codes "equal" ∷ rest) ≡ true) refl keeps e) h (λ h.
     entry_of word (codes "size") _ _ key (λ w. takes_memory (w ∷ rest) ≡ true) (λ e. forgets keyword.Size key (takes_memory (codes "size" ∷ rest) ≡ true) refl keeps e) h (λ h.
     entry_of word (codes "stats") _ _ key (λ w. takes_memory (w ∷ rest) ≡ true) (λ e. forgets keyword.Stats key (takes_memory (codes "stats" ∷ rest) ≡ true) refl keeps e) h (λ h.
-    no_more key (takes_memory (word ∷ rest) ≡ true) h)))))))))
+    no_more key (takes_memory (word ∷ rest) ≡ true) h))))))))))

@@ -32,6 +32,7 @@ statement_of statement.Empty = tree.Empty
 statement_of (statement.Level level) = tree.Level level
 statement_of (statement.Vars names) = tree.Vars names
 statement_of (statement.Let name e) = tree.Let name.now (tree_of e)
+statement_of (statement.Load prefix file) = tree.Load prefix.now file.now
 statement_of (statement.Value name bits) = tree.Value name.now bits.now
 statement_of (statement.First name n) = tree.First name.now n
 statement_of (statement.List name n most) = tree.Listed name.now n most

@@ -5,6 +5,7 @@ pub(crate) mod arguments;
 pub(crate) mod expressions;
 pub mod faults;
 pub(crate) mod numbers;
+pub(crate) mod pieces;
 pub mod statements;
 pub mod trees;
 pub(crate) mod words;

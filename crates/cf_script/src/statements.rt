@@ -12,6 +12,7 @@ ghost use Rattle.cf_script.specs.Answers.{Answers, any_wide, is_wide as is_wide_
 use crate::expressions::{Fault, read_expr};
 use crate::faults::ScriptFault;
 use crate::numbers::{natural, number, place};
+use crate::pieces::two_pieces;
 use crate::trees::{NameSlices, Statement};
 use crate::words::{after, before_comment, early_break, is_bits, is_name, next_word};
 use cf_reference::grammar::Keyword;
@@ -117,6 +118,7 @@ fn keyword_of(word: &[u8]) -> Option<Keyword>
         b"level" => Some(Keyword::Level),
         b"var" => Some(Keyword::Var),
         b"let" => Some(Keyword::Let),
+        b"load" => Some(Keyword::Load),
         b"value" => Some(Keyword::Value),
         b"first" => Some(Keyword::First),
         b"list" => Some(Keyword::List),
@@ -139,6 +141,7 @@ fn read_statement<'a>(
         Keyword::Level => read_level(text),
         Keyword::Var => read_vars(alloc, text),
         Keyword::Let => read_let(alloc, text),
+        Keyword::Load => read_load(text),
         Keyword::Value => read_value(text),
         Keyword::First => read_first(text),
         Keyword::List => read_list(text),
@@ -297,6 +300,22 @@ fn has_wide_number(text: &[u8]) -> bool
         }
     }
     false
+}
+
+/// `load PREFIX FILE`
+fn read_load(text: &[u8]) -> Result<Statement<'_>, ScriptFault>
+    ensures { Answers Keyword.Load text.now (words text.now) result }
+{
+    match two_pieces(text) {
+        Some((prefix, file)) => {
+            if is_name(prefix) {
+                Ok(Statement::Load(prefix, file))
+            } else {
+                Err(ScriptFault::Malformed)
+            }
+        }
+        None => Err(ScriptFault::Malformed),
+    }
 }
 
 /// `value NAME BITS`

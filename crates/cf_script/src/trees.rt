@@ -130,6 +130,8 @@ pub enum Statement<'a> {
     Vars(NameSlices<'a>),
     /// `let NAME = EXPR`
     Let(&'a [u8], Expr<'a>),
+    /// `load PREFIX FILE`
+    Load(&'a [u8], &'a [u8]),
     /// `value NAME BITS`
     Value(&'a [u8], &'a [u8]),
     /// `first NAME NUMBER`

@@ -16,7 +16,7 @@ pub(crate) fn before_comment(line: &[u8]) -> &[u8]
     }
 }
 
-fn is_blank(b: u8) -> bool
+pub(crate) fn is_blank(b: u8) -> bool
     ensures { result ≡ is_blank_byte b }
 {
     if b > b' ' {
@@ -84,7 +84,8 @@ fn from_visible(text: &[u8]) -> Option<&[u8]>
     }
 }
 
-fn first_visible(text: &[u8]) -> Option<usize>
+/// The place of the first byte that is no blank.
+pub(crate) fn first_visible(text: &[u8]) -> Option<usize>
     ensures place { result ≡ position (λ b. not (is_blank_byte b)) text.now }
     ensures within { IfSome result (λ place. place < length text.now) }
 {

@@ -1,7 +1,7 @@
 use Rattle.std.proofs.Common.{◌+◌, ap, sym, ◌∙◌, arith, cond, Some, drop, map}
 use Rattle.std.specs.Str.{bytes_eq}
 use Rattle.std.proofs.lemmas.Slice.Eq.{bytes_eq-Decides}
-use Rattle.cf_io.specs.Opening.{content_of}
+use Rattle.cf_reference.specs.States.{content_of}
 use Rattle.cf_io.proofs.FileLemmas.{first_decides, content_here, name_here}
 use Rattle.cf_io.proofs.mem_files.place_of.Goals as goal
 

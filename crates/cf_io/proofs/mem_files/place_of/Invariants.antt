@@ -1,5 +1,5 @@
 use Rattle.std.proofs.Common.{◌≡◌, map, drop}
-use Rattle.cf_io.specs.Opening.{content_of}
+use Rattle.cf_reference.specs.States.{content_of}
 use Rattle.cf_io.proofs.mem_files.place_of.Given as goal
 
 -- no file before the place has the name
