@@ -20,6 +20,7 @@ pub mod MatrixExamples
 pub mod TermLaws
 pub mod TermExamples
 pub mod PointwiseExamples
+pub mod QuantifiedExamples
 pub mod PairSumLaws
 pub mod PairSumExamples
 pub mod FunctionLaws
