@@ -17,3 +17,4 @@ pub mod Loading
 pub mod Carrying
 pub mod Scripts
 pub mod Gives
+pub mod Generator
