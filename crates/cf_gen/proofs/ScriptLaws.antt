@@ -1,9 +1,9 @@
 -- Lines one after another, and the draws for each.
 use Rattle.std.proofs.Common.{ℕ, zero, suc, ◌≡◌, ◌+◌, ◌-◌, ◌*◌, ◌≤◌, List, [], ◌∷◌, ◌++◌, map, refl, ap, sym, ◌∙◌, append_assoc, append-nil, add-one, arith}
-use Rattle.std.specs.List.{flat_map, range_with_len}
+use Rattle.std.specs.List.{range_with_len}
 use Rattle.std.proofs.lemmas.Grind.{flat_map-append}
 use Rattle.std.proofs.lemmas.List.{map-append}
-use Rattle.cf_reference.specs.Generator.{next_state, state_after, number_below, draw, operation, call_line, variable_line, drawn_line, variable_lines, drawn_lines, opening, questions, text_of_lines, gen_lines, gen_script}
+use Rattle.cf_reference.specs.Generator.{next_state, state_after, drawn, draw, operation, call_line, variable_line, drawn_line, variable_lines, drawn_lines, opening, questions, text_of_lines, gen_lines, gen_script}
 
 text_of_lines-append : (xs ys : List (List ℕ)) → text_of_lines (xs ++ ys) ≡ text_of_lines xs ++ text_of_lines ys
 unfolding text_of_lines
@@ -70,12 +70,12 @@ states-more seed i s x y z low es ex ey ez =
     let next : 3 * (i + 1 - 12) ≡ suc (suc (suc first)) = omega arith in
     ez ∙ ap next_state (ey ∙ ap next_state (ex ∙ ap next_state es))
     ∙ sym (ap (state_after seed) next ∙ state_after-suc seed (suc (suc first))
-        ∙ ap next_state (state_after-suc seed (suc first) ∙ ap next_state (state_after-suc seed first)))
+    ∙ ap next_state (state_after-suc seed (suc first) ∙ ap next_state (state_after-suc seed first)))
 
 -- the line of a function by what is drawn for it
 pub drawn_line-is : (seed i s x y z number a b : ℕ) (word : List ℕ) → s ≡ state_after seed (3 * (i - 12))
     → x ≡ next_state s → y ≡ next_state x → z ≡ next_state y
-    → number ≡ number_below 5 x → word ≡ operation number → a ≡ number_below i y → b ≡ number_below i z
+    → number ≡ drawn 5 x → word ≡ operation number → a ≡ drawn i y → b ≡ drawn i z
     → call_line i word a b ≡ drawn_line seed i
 unfolding drawn_line
 drawn_line-is seed i s x y z number a b word es ex ey ez en ew ea eb =
@@ -87,9 +87,9 @@ drawn_line-is seed i s x y z number a b word es ex ey ez en ew ea eb =
     let fz : z ≡ state_after seed (suc (suc (suc first))) = ez ∙ ap next_state fy ∙ sym (state_after-suc seed (suc (suc first))) in
     let gy : y ≡ state_after seed (suc (first + 1)) = fy ∙ ap (λ n. state_after seed (suc n)) (sym e1) in
     let gz : z ≡ state_after seed (suc (first + 2)) = fz ∙ ap (λ n. state_after seed (suc n)) (sym e2) in
-    let hw : word ≡ operation (draw seed first 5) = ew ∙ ap operation (en ∙ ap (number_below 5) fx) in
-    let ha : a ≡ draw seed (first + 1) i = ea ∙ ap (number_below i) gy in
-    let hb : b ≡ draw seed (first + 2) i = eb ∙ ap (number_below i) gz in
+    let hw : word ≡ operation (draw seed first 5) = ew ∙ ap operation (en ∙ ap (drawn 5) fx) in
+    let ha : a ≡ draw seed (first + 1) i = ea ∙ ap (drawn i) gy in
+    let hb : b ≡ draw seed (first + 2) i = eb ∙ ap (drawn i) gz in
     ap (λ w. call_line i w a b) hw
     ∙ ap (λ n. call_line i (operation (draw seed first 5)) n b) ha
     ∙ ap (λ n. call_line i (operation (draw seed first 5)) (draw seed (first + 1) i) n) hb
@@ -110,18 +110,18 @@ gen_script-parts seed =
     let later = drawn_lines seed 270 ++ questions in
     text_of_lines-append opening (variable_lines 12 ++ later)
     ∙ ap (λ t. text_of_lines opening ++ t) (text_of_lines-append (variable_lines 12) later
-        ∙ ap (λ t. text_of_lines (variable_lines 12) ++ t) (text_of_lines-append (drawn_lines seed 270) questions))
+    ∙ ap (λ t. text_of_lines (variable_lines 12) ++ t) (text_of_lines-append (drawn_lines seed 270) questions))
     ∙ sym (regroup (text_of_lines opening) (text_of_lines (variable_lines 12)) (text_of_lines (drawn_lines seed 270)) (text_of_lines questions))
 
 -- the script, part by part
-pub gen_script-is : (seed : ℕ) (none opened named drawn whole : List ℕ) → none ≡ []
+pub gen_script-is : (seed : ℕ) (none opened named called whole : List ℕ) → none ≡ []
     → opened ≡ none ++ text_of_lines opening
     → named ≡ opened ++ text_of_lines (variable_lines 12)
-    → drawn ≡ named ++ text_of_lines (drawn_lines seed 270)
-    → whole ≡ drawn ++ text_of_lines questions
+    → called ≡ named ++ text_of_lines (drawn_lines seed 270)
+    → whole ≡ called ++ text_of_lines questions
     → whole ≡ gen_script seed
-gen_script-is seed none opened named drawn whole e0 e1 e2 e3 e4 =
+gen_script-is seed none opened named called whole e0 e1 e2 e3 e4 =
     e4 ∙ ap (λ t. t ++ text_of_lines questions) (e3
-        ∙ ap (λ t. t ++ text_of_lines (drawn_lines seed 270)) (e2
-            ∙ ap (λ t. t ++ text_of_lines (variable_lines 12)) (e1 ∙ ap (λ t. t ++ text_of_lines opening) e0)))
+    ∙ ap (λ t. t ++ text_of_lines (drawn_lines seed 270)) (e2
+    ∙ ap (λ t. t ++ text_of_lines (variable_lines 12)) (e1 ∙ ap (λ t. t ++ text_of_lines opening) e0)))
     ∙ sym (gen_script-parts seed)

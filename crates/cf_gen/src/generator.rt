@@ -1,7 +1,7 @@
 //! A linear congruential generator.
 
 ghost use Rattle.std.specs.Prelude.{◌≡◌, ◌<◌};
-ghost use Rattle.cf_reference.specs.Generator.{next_state, number_below};
+ghost use Rattle.cf_reference.specs.Generator.{next_state, drawn};
 
 use std::marker::Model;
 
@@ -11,7 +11,7 @@ const INCREMENT: u64 = 1_442_695_040_888_963_407;
 
 /// A generator, known by its state.
 #[derive(Drop)]
-pub struct Generator {
+pub(crate) struct Generator {
     state: u64,
 }
 
@@ -25,20 +25,20 @@ impl Model for Generator {
 
 impl Generator {
     /// A generator that begins in the state `seed`.
-    pub fn new(seed: u64) -> Generator
+    pub(crate) fn new(seed: u64) -> Generator
         ensures { result ≡ seed }
     {
         Generator { state: seed }
     }
 
-    /// Moves to the next state, and gives its number below `bound`.
-    pub fn draw(&mut self, bound: u64) -> u64
-        requires { 0 < bound }
+    /// Moves to the next state, and draws a number below a bound with it.
+    pub(crate) fn draw(&mut self, below: u64) -> u64
+        requires { 0 < below }
         ensures state { self.new ≡ next_state self.old }
-        ensures number { result ≡ number_below bound self.new }
-        ensures below { result < bound }
+        ensures number { result ≡ drawn below self.new }
+        ensures less { result < below }
     {
         self.state = self.state.wrapping_mul(MULTIPLIER).wrapping_add(INCREMENT);
-        (self.state >> 33) % bound
+        (self.state >> 33) % below
     }
 }

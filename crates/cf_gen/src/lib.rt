@@ -4,22 +4,27 @@
 ghost use Rattle.std.specs.Prelude.{◌≡◌, ◌++◌, IfOk, OnOk};
 ghost use Rattle.cf_reference.specs.Generator.{
   text_of_lines,
-  variables,
   variable_lines,
+  variable_count,
   drawn_lines,
+  drawn_count,
   gen_script,
 };
 
 mod generator;
 mod lines;
 
-pub use generator::Generator;
-
+use generator::Generator;
 use lines::{add_call, add_variable, operation_word};
 use std::alloc::Global;
 
 /// There was no memory.
 pub type NoMemory = std::alloc::AllocError;
+
+/// How many functions there are, of which the first are variables and the others are drawn.
+const FUNCTIONS: u64 = 282;
+
+const VARIABLES: u64 = 12;
 
 /// No script has more bytes.
 const MOST_BYTES: usize = 8_192;
@@ -60,9 +65,9 @@ pub fn gen_script(alloc: Global, n: u64) -> Result<Vec<u8>, NoMemory>
 
 /// The functions that are variables.
 fn add_variables(text: &mut Vec<u8>) -> Result<(), NoMemory>
-    ensures { OnOk result (text.new.items ≡ text.old.items ++ text_of_lines (variable_lines variables)) }
+    ensures { OnOk result (text.new.items ≡ text.old.items ++ text_of_lines (variable_lines variable_count)) }
 {
-    for i in 0..12 {
+    for i in 0..VARIABLES {
         add_variable(text, i)?;
     }
     Ok(())
@@ -70,10 +75,10 @@ fn add_variables(text: &mut Vec<u8>) -> Result<(), NoMemory>
 
 /// The functions that are drawn, each one's operation first.
 fn add_drawn(text: &mut Vec<u8>, n: u64) -> Result<(), NoMemory>
-    ensures { OnOk result (text.new.items ≡ text.old.items ++ text_of_lines (drawn_lines n 270)) }
+    ensures { OnOk result (text.new.items ≡ text.old.items ++ text_of_lines (drawn_lines n drawn_count)) }
 {
     let mut generator = Generator::new(n);
-    for i in 12..282 {
+    for i in VARIABLES..FUNCTIONS {
         let word = operation_word(generator.draw(5));
         let a = generator.draw(i);
         let b = generator.draw(i);

@@ -57,6 +57,5 @@ pub(crate) fn add_call(
     add_number(text, a)?;
     text.extend_from_slice(b",f")?;
     add_number(text, b)?;
-    text.extend_from_slice(b")\n")?;
-    Ok(())
+    text.extend_from_slice(b")\n")
 }

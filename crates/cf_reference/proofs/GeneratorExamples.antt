@@ -41,3 +41,7 @@ three_hundred_lines seed = refl
 first_two_lines : (seed : ℕ) → take 2 (gen_lines seed) ≡ codes "level 7" ∷ codes "var v0 v1 v2 v3 v4 v5 v6 v7 v8 v9 v10 v11" ∷ []
 unfolding gen_lines
 first_two_lines seed = refl
+
+last_drawn : get_or (gen_lines 1) 283 [] ≡ codes "let f281 = xor(f87,f150)"
+unfolding gen_lines variable_lines drawn_lines drawn_line state_after digits
+last_drawn = refl

@@ -19,13 +19,13 @@ unfoldable pub state_after : ℕ → ℕ → ℕ
 state_after seed zero = seed
 state_after seed (suc draws) = next_state (state_after seed draws)
 
--- the number below a bound that a state gives: its 31 high bits, modulo the bound
-abbrev pub number_below : ℕ → ℕ → ℕ
-number_below bound state = state / 2 ^ 33 % bound
+-- the number below a bound that is drawn with a state: its 31 high bits, modulo the bound
+abbrev pub drawn : ℕ → ℕ → ℕ
+drawn below state = state / 2 ^ 33 % below
 
--- The draw at a place, counted from 0, below a bound. It gives its number after the recurrence.
+-- The draw at a place, counted from 0, below a bound. It moves to the next state, and draws with that.
 abbrev pub draw : ℕ → ℕ → ℕ → ℕ
-draw seed place bound = number_below bound (state_after seed (suc place))
+draw seed place below = drawn below (state_after seed (suc place))
 
 -- the operations, by their numbers
 abbrev pub operations : List (List ℕ)
@@ -44,24 +44,26 @@ call_line i word a b =
 abbrev pub variable_line : ℕ → List ℕ
 variable_line i = codes "let f" ++ decimal i ++ codes " = v" ++ decimal i
 
--- Twelve functions are variables.
-abbrev pub variables : ℕ
-variables = 12
+-- how many functions are variables, and how many behind them are drawn
+abbrev pub variable_count : ℕ
+variable_count = 12
 
--- The line for function i that is drawn, by the three draws for it, each drawn function having three: the operation, and two
--- functions before it.
+abbrev pub drawn_count : ℕ
+drawn_count = 270
+
+-- The line for function i that is drawn. Each has three draws in order: for its operation, and for two functions before it.
 unfoldable pub drawn_line : ℕ → ℕ → List ℕ
 drawn_line seed i =
-    let first = 3 * (i - variables) in
+    let first = 3 * (i - variable_count) in
     call_line i (operation (draw seed first 5)) (draw seed (first + 1) i) (draw seed (first + 2) i)
 
--- the lines for the first variables
+-- the lines for the first functions, which are variables
 unfoldable pub variable_lines : ℕ → List (List ℕ)
 variable_lines count = map variable_line (range_with_len 0 count)
 
 -- the lines for the first functions that are drawn
 unfoldable pub drawn_lines : ℕ → ℕ → List (List ℕ)
-drawn_lines seed count = map (drawn_line seed) (range_with_len variables count)
+drawn_lines seed count = map (drawn_line seed) (range_with_len variable_count count)
 
 abbrev pub opening : List (List ℕ)
 opening = codes "level 7" ∷ codes "var v0 v1 v2 v3 v4 v5 v6 v7 v8 v9 v10 v11" ∷ []
@@ -93,7 +95,7 @@ text_of_lines lines = flat_map (λ line. line ++ byte.newline ∷ []) lines
 
 -- The lines of the script of a seed.
 unfoldable pub gen_lines : ℕ → List (List ℕ)
-gen_lines seed = opening ++ (variable_lines variables ++ (drawn_lines seed 270 ++ questions))
+gen_lines seed = opening ++ (variable_lines variable_count ++ (drawn_lines seed drawn_count ++ questions))
 
 -- The script of a seed.
 unfoldable pub gen_script : ℕ → List ℕ

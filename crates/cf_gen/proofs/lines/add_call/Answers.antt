@@ -1,5 +1,4 @@
 use Rattle.std.proofs.Common.{arith, append_assoc}
-use Rattle.std.proofs.lemmas.Grind.{common_steps}
 use Rattle.cf_gen.proofs.lines.add_call.Goals as goal
 
 pub returns : goal.returns
