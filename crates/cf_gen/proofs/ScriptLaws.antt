@@ -57,9 +57,10 @@ drawn_lines-more seed i line low is =
     ∙ text-more (drawn_line seed) 12 (i - 12)
     ∙ ap (λ l. before ++ (l ++ 10 ∷ [])) (ap (drawn_line seed) e ∙ sym is)
 
-state_after-suc : (seed n : ℕ) → state_after seed (suc n) ≡ next_state (state_after seed n)
+-- the state behind one more draw
+state-next : (seed n s x : ℕ) → s ≡ state_after seed n → x ≡ next_state s → x ≡ state_after seed (suc n)
 unfolding state_after
-state_after-suc seed n = refl
+state-next seed n s x known step = step ∙ ap next_state known
 
 -- the state behind the three draws for a function
 pub states-more : (seed i s x y z : ℕ) → 12 ≤ i → s ≡ state_after seed (3 * (i - 12))
@@ -67,10 +68,11 @@ pub states-more : (seed i s x y z : ℕ) → 12 ≤ i → s ≡ state_after seed
     → z ≡ state_after seed (3 * (i + 1 - 12))
 states-more seed i s x y z low es ex ey ez =
     let first : ℕ = 3 * (i - 12) in
-    let next : 3 * (i + 1 - 12) ≡ suc (suc (suc first)) = omega arith in
-    ez ∙ ap next_state (ey ∙ ap next_state (ex ∙ ap next_state es))
-    ∙ sym (ap (state_after seed) next ∙ state_after-suc seed (suc (suc first))
-    ∙ ap next_state (state_after-suc seed (suc first) ∙ ap next_state (state_after-suc seed first)))
+    let next : suc (suc (suc first)) ≡ 3 * (i + 1 - 12) = omega arith in
+    let fx = state-next seed first s x es ex in
+    let fy = state-next seed (suc first) x y fx ey in
+    let fz = state-next seed (suc (suc first)) y z fy ez in
+    fz ∙ ap (state_after seed) next
 
 -- the line of a function by what is drawn for it
 pub drawn_line-is : (seed i s x y z number a b : ℕ) (word : List ℕ) → s ≡ state_after seed (3 * (i - 12))
@@ -80,16 +82,14 @@ pub drawn_line-is : (seed i s x y z number a b : ℕ) (word : List ℕ) → s �
 unfolding drawn_line
 drawn_line-is seed i s x y z number a b word es ex ey ez en ew ea eb =
     let first : ℕ = 3 * (i - 12) in
-    let e1 : first + 1 ≡ suc first = omega arith in
-    let e2 : first + 2 ≡ suc (suc first) = omega arith in
-    let fx : x ≡ state_after seed (suc first) = ex ∙ ap next_state es ∙ sym (state_after-suc seed first) in
-    let fy : y ≡ state_after seed (suc (suc first)) = ey ∙ ap next_state fx ∙ sym (state_after-suc seed (suc first)) in
-    let fz : z ≡ state_after seed (suc (suc (suc first))) = ez ∙ ap next_state fy ∙ sym (state_after-suc seed (suc (suc first))) in
-    let gy : y ≡ state_after seed (suc (first + 1)) = fy ∙ ap (λ n. state_after seed (suc n)) (sym e1) in
-    let gz : z ≡ state_after seed (suc (first + 2)) = fz ∙ ap (λ n. state_after seed (suc n)) (sym e2) in
+    let second : suc first ≡ first + 1 = omega arith in
+    let third : suc (suc first) ≡ first + 2 = omega arith in
+    let fx = state-next seed first s x es ex in
+    let fy = state-next seed (suc first) x y fx ey in
+    let fz = state-next seed (suc (suc first)) y z fy ez in
     let hw : word ≡ operation (draw seed first 5) = ew ∙ ap operation (en ∙ ap (drawn 5) fx) in
-    let ha : a ≡ draw seed (first + 1) i = ea ∙ ap (drawn i) gy in
-    let hb : b ≡ draw seed (first + 2) i = eb ∙ ap (drawn i) gz in
+    let ha : a ≡ draw seed (first + 1) i = ea ∙ ap (drawn i) fy ∙ ap (λ n. draw seed n i) second in
+    let hb : b ≡ draw seed (first + 2) i = eb ∙ ap (drawn i) fz ∙ ap (λ n. draw seed n i) third in
     ap (λ w. call_line i w a b) hw
     ∙ ap (λ n. call_line i (operation (draw seed first 5)) n b) ha
     ∙ ap (λ n. call_line i (operation (draw seed first 5)) (draw seed (first + 1) i) n) hb
@@ -100,18 +100,9 @@ pub with_line : (old front line whole text new : List ℕ) → text ≡ old ++ f
 with_line old front line whole text new before step more =
     step ∙ ap (λ t. t ++ line) before ∙ append_assoc old front line ∙ ap (λ t. old ++ t) (sym more)
 
-regroup : (a b c d : List ℕ) → a ++ b ++ c ++ d ≡ a ++ (b ++ (c ++ d))
-regroup a b c d = simp append_assoc
-
-gen_script-parts : (seed : ℕ)
-    → gen_script seed ≡ text_of_lines opening ++ text_of_lines (variable_lines 12) ++ text_of_lines (drawn_lines seed 270) ++ text_of_lines questions
-unfolding gen_script gen_lines
-gen_script-parts seed =
-    let later = drawn_lines seed 270 ++ questions in
-    text_of_lines-append opening (variable_lines 12 ++ later)
-    ∙ ap (λ t. text_of_lines opening ++ t) (text_of_lines-append (variable_lines 12) later
-    ∙ ap (λ t. text_of_lines (variable_lines 12) ++ t) (text_of_lines-append (drawn_lines seed 270) questions))
-    ∙ sym (regroup (text_of_lines opening) (text_of_lines (variable_lines 12)) (text_of_lines (drawn_lines seed 270)) (text_of_lines questions))
+text_of_four : (a b c d : List (List ℕ))
+    → text_of_lines (a ++ (b ++ (c ++ d))) ≡ text_of_lines a ++ text_of_lines b ++ text_of_lines c ++ text_of_lines d
+text_of_four a b c d = simp (text_of_lines-append, append_assoc)
 
 -- the script, part by part
 pub gen_script-is : (seed : ℕ) (none opened named called whole : List ℕ) → none ≡ []
@@ -120,8 +111,10 @@ pub gen_script-is : (seed : ℕ) (none opened named called whole : List ℕ) →
     → called ≡ named ++ text_of_lines (drawn_lines seed 270)
     → whole ≡ called ++ text_of_lines questions
     → whole ≡ gen_script seed
+unfolding gen_script gen_lines
 gen_script-is seed none opened named called whole e0 e1 e2 e3 e4 =
-    e4 ∙ ap (λ t. t ++ text_of_lines questions) (e3
-    ∙ ap (λ t. t ++ text_of_lines (drawn_lines seed 270)) (e2
-    ∙ ap (λ t. t ++ text_of_lines (variable_lines 12)) (e1 ∙ ap (λ t. t ++ text_of_lines opening) e0)))
-    ∙ sym (gen_script-parts seed)
+    let f1 = e1 ∙ ap (λ t. t ++ text_of_lines opening) e0 in
+    let f2 = e2 ∙ ap (λ t. t ++ text_of_lines (variable_lines 12)) f1 in
+    let f3 = e3 ∙ ap (λ t. t ++ text_of_lines (drawn_lines seed 270)) f2 in
+    e4 ∙ ap (λ t. t ++ text_of_lines questions) f3
+    ∙ sym (text_of_four opening (variable_lines 12) (drawn_lines seed 270) questions)

@@ -1,4 +1,4 @@
-//! Generated scripts: what a seed's script is, and its text.
+//! Generated scripts: the script of a seed.
 #![tactic(auto)]
 
 ghost use Rattle.std.specs.Prelude.{◌≡◌, ◌++◌, IfOk, OnOk};
@@ -32,8 +32,8 @@ const MOST_BYTES: usize = 8_192;
 /// The lines before the functions.
 const OPENING: &[u8] = b"level 7\nvar v0 v1 v2 v3 v4 v5 v6 v7 v8 v9 v10 v11\n";
 
-/// The lines behind the functions: what is asked of the last ones, of their sum, and of a Walsh matrix
-/// and its square.
+/// The lines behind the functions: what is asked of the last ones, of their sum, and of a Walsh
+/// matrix and its square.
 const QUESTIONS: &[u8] = b"let s = plus(f274,f275,f276,f277,f278,f279,f280,f281)\n\
     size s\n\
     first s 0\n\
@@ -65,7 +65,8 @@ pub fn gen_script(alloc: Global, n: u64) -> Result<Vec<u8>, NoMemory>
 
 /// The functions that are variables.
 fn add_variables(text: &mut Vec<u8>) -> Result<(), NoMemory>
-    ensures { OnOk result (text.new.items ≡ text.old.items ++ text_of_lines (variable_lines variable_count)) }
+    ensures { OnOk result
+        (text.new.items ≡ text.old.items ++ text_of_lines (variable_lines variable_count)) }
 {
     for i in 0..VARIABLES {
         add_variable(text, i)?;
@@ -73,9 +74,10 @@ fn add_variables(text: &mut Vec<u8>) -> Result<(), NoMemory>
     Ok(())
 }
 
-/// The functions that are drawn, each one's operation first.
+/// The functions that are drawn, for each its operation first.
 fn add_drawn(text: &mut Vec<u8>, n: u64) -> Result<(), NoMemory>
-    ensures { OnOk result (text.new.items ≡ text.old.items ++ text_of_lines (drawn_lines n drawn_count)) }
+    ensures { OnOk result
+        (text.new.items ≡ text.old.items ++ text_of_lines (drawn_lines n drawn_count)) }
 {
     let mut generator = Generator::new(n);
     for i in VARIABLES..FUNCTIONS {

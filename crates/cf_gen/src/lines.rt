@@ -29,7 +29,8 @@ fn add_number(text: &mut Vec<u8>, number: u64) -> Result<(), NoMemory>
 
 /// The line for function `i` that is variable `i`.
 pub(crate) fn add_variable(text: &mut Vec<u8>, i: u64) -> Result<(), NoMemory>
-    ensures { OnOk result (text.new.items ≡ text.old.items ++ (variable_line i ++ byte.newline ∷ [])) }
+    ensures { OnOk result
+        (text.new.items ≡ text.old.items ++ (variable_line i ++ byte.newline ∷ [])) }
 {
     text.extend_from_slice(b"let f")?;
     add_number(text, i)?;

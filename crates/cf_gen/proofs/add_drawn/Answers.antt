@@ -9,11 +9,15 @@ loop-i-init c = record { text = rw (none_drawn, append-nil); state = c.new-gener
 
 pub loop-i-preserved : goal.loop-i-preserved
 loop-i-preserved c =
+    let low = c.loop-i.auto.i in
     let state = c.loop-i.invariant.state in
-    let line = drawn_line-is c.args.n c.loop-i.i _ _ _ _ _ _ _ _ state c.draw.ensures.state c.draw-a.ensures.state c.draw-b.ensures.state
-    c.draw.ensures.number c.operation_word-word.ensures c.draw-a.ensures.number c.draw-b.ensures.number in
+    let word = c.draw.ensures in
+    let a = c.draw-a.ensures in
+    let b = c.draw-b.ensures in
+    let line = drawn_line-is c.args.n c.loop-i.i _ _ _ _ _ _ _ _ state word.state a.state b.state
+    word.number c.operation_word-word.ensures a.number b.number in
+    let more = drawn_lines-more c.args.n c.loop-i.i _ low line in
     record {
-      text = with_line _ _ _ _ _ _ c.loop-i.invariant.text c.in_ok-add_call.ensures
-          (drawn_lines-more c.args.n c.loop-i.i _ c.loop-i.auto.i line);
-      state = states-more c.args.n c.loop-i.i _ _ _ _ c.loop-i.auto.i state c.draw.ensures.state c.draw-a.ensures.state c.draw-b.ensures.state;
+      text = with_line _ _ _ _ _ _ c.loop-i.invariant.text c.in_ok-add_call.ensures more;
+      state = states-more c.args.n c.loop-i.i _ _ _ _ low state word.state a.state b.state;
     }
