@@ -5,6 +5,8 @@
 #[cfg(test)]
 mod calls;
 #[cfg(test)]
+mod running;
+#[cfg(test)]
 mod sessions;
 #[cfg(test)]
 mod streams;

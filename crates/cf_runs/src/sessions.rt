@@ -1,10 +1,11 @@
 //! A session that builds an expression twice.
 
+use crate::running::run_script;
 use cf_io::{MemFiles, MemSink, MemSource};
 use cf_script::parse_line;
 use cf_session::{Session, Stepped};
 use cf_text::Text;
-use cf_top::{Status, run};
+use cf_top::Status;
 use std::test::Fail;
 
 const LET: &[u8] =
@@ -23,26 +24,18 @@ fn counts(session: &Session) -> [u64; 8] {
 #[test]
 fn an_expression_built_twice_adds_no_grouping(rt: HostRuntime) -> Result<(), Fail> {
     let alloc = rt.alloc();
-    let words = vec![in alloc; String::from_str(alloc, "run")?]?;
     let mut script = b"level 7\n".to_vec(alloc)?;
     script.extend_from_slice(LET)?;
     let mut source = MemSource::new(script, 100, 0, Vec::new(alloc));
-    let mut files = MemFiles::new(Vec::new(alloc), 1, Vec::new(alloc));
     let mut sink = MemSink::new(alloc, 100, 100, Vec::new(alloc))?;
     let mut session = Session::new(alloc)?;
-    let status = run(
-        alloc,
-        &words,
-        &mut session,
-        &mut source,
-        &mut files,
-        &mut sink,
-    );
+    let status = run_script(alloc, &mut session, &mut source, &mut sink)?;
     assert_eq!(rt; status, Status::Done);
     let once = counts(&session);
     let Ok(again) = parse_line(alloc, &LET[..LET.len() - 1]) else {
         panic!(rt; "the line is a statement");
     };
+    let mut files = MemFiles::new(Vec::new(alloc), 1, Vec::new(alloc));
     let stepped = session.step(&mut files, &again, &mut Text::new(), &mut sink);
     assert!(rt; matches!(stepped, Stepped::Written));
     assert_eq!(rt; counts(&session).as_slice(), once.as_slice());

@@ -1,8 +1,9 @@
 //! Failing reads and writes, and the adapters over readers and writers.
 
-use cf_io::{HostSink, HostSource, Lines, MemFiles, MemSink, MemSource, Next, Source, put_all};
+use crate::running::run_script;
+use cf_io::{HostSink, HostSource, Lines, MemSink, MemSource, Next, Source, put_all};
 use cf_session::Session;
-use cf_top::{Status, run};
+use cf_top::Status;
 use std::alloc::Global;
 use std::io::{self, ErrorKind, Read, Write};
 use std::test::Fail;
@@ -11,19 +12,10 @@ const SCRIPT: &[u8] = b"level 0\nlet f = @0\nvalue f 0\nvalue f 1\n";
 
 /// The status of a run whose reads and writes of given numbers fail, and what it has written.
 fn answer(alloc: Global, reads: &[u64], writes: &[u64]) -> Result<(Status, Vec<u8>), Fail> {
-    let words = vec![in alloc; String::from_str(alloc, "run")?]?;
     let mut source = MemSource::new(SCRIPT.to_vec(alloc)?, 12, 0, reads.to_vec(alloc)?);
-    let mut files = MemFiles::new(Vec::new(alloc), 1, Vec::new(alloc));
     let mut sink = MemSink::new(alloc, 100, 100, writes.to_vec(alloc)?)?;
     let mut session = Session::new(alloc)?;
-    let status = run(
-        alloc,
-        &words,
-        &mut session,
-        &mut source,
-        &mut files,
-        &mut sink,
-    );
+    let status = run_script(alloc, &mut session, &mut source, &mut sink)?;
     Ok((status, sink.bytes().to_vec(alloc)?))
 }
 
