@@ -5,6 +5,7 @@ pub mod ParsedLaws
 pub mod GrammarExamples
 pub mod ScriptExamples
 pub mod LoadExamples
+pub mod VariableExamples
 pub mod TestFacts
 pub mod ExpressionLaws
 pub mod FailureLaws

@@ -21,11 +21,11 @@ use Rattle.cf_reference.specs.Scripts.{text_of, Done, Refused, Usage, carry, run
 use Rattle.cf_reference.specs.Lines.{lines}
 
 -- the lines of a script, each ended by a newline
-abbrev script : List (List ℕ) → List ℕ
+abbrev pub script : List (List ℕ) → List ℕ
 script [] = []
 script (line ∷ later) = line ++ 10 ∷ script later
 
-abbrev text : List (List ℕ) → List ℕ
+unfoldable pub text : List (List ℕ) → List ℕ
 unfolding digits all_bits lines before_comment words natural number place is_name is_bits head_of keyword_of leaf atom_of is_deep statement_at readers walk part subexpressions failure set_level declare define tell_value tell_first tell_list tell_equal tell_size tell_stats carry run_lines
 text rows = (ref [] (codes "run" ∷ []) (script rows)).text
 

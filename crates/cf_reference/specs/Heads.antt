@@ -5,7 +5,7 @@ use Rattle.cf_model.specs.declared.terms.Word2.TheVariants.{And, Or, Xor, Plus, 
 use Rattle.cf_reference.specs.declared.grammar.Head.{Head}
 pub use Rattle.cf_reference.specs.declared.grammar.Kind.{Kind}
 pub use Rattle.cf_reference.specs.declared.grammar.Kind.TheVariants.{Expression as AnExpression, Variable as AVariable, Natural as ANatural, Number as ANumber, Bit as ABit}
-use Rattle.cf_reference.specs.declared.grammar.Head.TheVariants.{Const, One, Fold, Ite}
+use Rattle.cf_reference.specs.declared.grammar.Head.TheVariants.{Const, One, Fold, Ite, Restrict, Exists, Forall, SumOut, Compose, AndExists}
 
 -- The heads of calls: the word of each, and the arguments that it takes.
 
@@ -26,6 +26,12 @@ table =
     ∷ (codes "eq", Fold Eq)
     ∷ (codes "lt", Fold Lt)
     ∷ (codes "ite", Ite)
+    ∷ (codes "restrict", Restrict)
+    ∷ (codes "exists", Exists)
+    ∷ (codes "forall", Forall)
+    ∷ (codes "sumout", SumOut)
+    ∷ (codes "compose", Compose)
+    ∷ (codes "andexists", AndExists)
     ∷ []
 
 abbrev pub found_in : List (List ℕ × Head) → List ℕ → Option Head
@@ -57,6 +63,12 @@ signature (Fold Eq) = exactly (AnExpression ∷ AnExpression ∷ [])
 signature (Fold Lt) = exactly (AnExpression ∷ AnExpression ∷ [])
 signature (Fold other) = or_more (AnExpression ∷ AnExpression ∷ []) AnExpression
 signature Ite = exactly (AnExpression ∷ AnExpression ∷ AnExpression ∷ [])
+signature Restrict = exactly (AnExpression ∷ AVariable ∷ ABit ∷ [])
+signature Exists = or_more (AnExpression ∷ AVariable ∷ []) AVariable
+signature Forall = or_more (AnExpression ∷ AVariable ∷ []) AVariable
+signature SumOut = or_more (AnExpression ∷ AVariable ∷ []) AVariable
+signature Compose = exactly (AnExpression ∷ AVariable ∷ AnExpression ∷ [])
+signature AndExists = or_more (AnExpression ∷ AnExpression ∷ AVariable ∷ []) AVariable
 
 abbrev pub counted : ℕ → Option Kind → ℕ → Bool
 counted least None n = n == least
