@@ -6,6 +6,7 @@ pub mod GrammarExamples
 pub mod ScriptExamples
 pub mod LoadExamples
 pub mod GeneratorExamples
+pub mod VariableExamples
 pub mod TestFacts
 pub mod ExpressionLaws
 pub mod FailureLaws

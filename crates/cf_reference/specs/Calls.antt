@@ -1,11 +1,14 @@
-use Rattle.std.specs.Prelude.{ℕ, ℤ, pos, ◌^◌, ◌==◌, nat_le, nat_abs, Bool, true, false, List, [], ◌∷◌, Option, Some, None, unwrap_or, if◌then◌else◌}
+use Rattle.std.specs.Prelude.{ℕ, ℤ, pos, ◌^◌, ◌==◌, nat_le, nat_abs, Bool, true, false, List, [], ◌∷◌, map, Option, Some, None, unwrap_or, if◌then◌else◌}
 use Rattle.std.specs.List.{list_all}
 use Rattle.std.specs.Option.{option_or}
 use Rattle.cf_model.specs.Values.{fitting, and_then}
 use Rattle.cf_model.specs.Terms.{value1, folded_on, is_true}
 use Rattle.cf_model.specs.FlatFunctions.{FlatFunction, tabulated}
+use Rattle.cf_model.specs.Pointwise.{restricted}
+use Rattle.cf_model.specs.Quantified.{over_all, some_setting, every_setting, both, composed}
+use Rattle.cf_model.specs.declared.terms.Word2.TheVariants.{Plus}
 use Rattle.cf_reference.specs.declared.grammar.Head.{Head}
-use Rattle.cf_reference.specs.declared.grammar.Head.TheVariants.{Const, One, Fold, Ite}
+use Rattle.cf_reference.specs.declared.grammar.Head.TheVariants.{Const, One, Fold, Ite, Restrict, Exists, Forall, SumOut, Compose, AndExists}
 use Rattle.cf_reference.specs.Reasons.{Refusal, LevelsDiffer, BadLevel, OutOfRange, unless}
 use Rattle.cf_reference.specs.States.{is_below, at}
 
@@ -38,6 +41,10 @@ positions [] = []
 positions (Position i ∷ later) = i ∷ positions later
 positions (other ∷ later) = positions later
 
+-- the variables, by their positions
+abbrev pub places : List Meant → List ℕ
+places args = map nat_abs (positions args)
+
 -- the values of the functions at an assignment
 abbrev pub values : List Meant → List Bool → List (Option ℤ)
 values [] bits = []
@@ -59,6 +66,15 @@ exact (One word) (Function f ∷ []) = of_level f.level (λ bits. value1 word (a
 exact (Fold word) (Function f ∷ later) = of_level f.level (λ bits. folded_on word (Some (at f bits)) (values later bits))
 exact Ite (Function f ∷ Function g ∷ Function h ∷ []) =
     of_level f.level (λ bits. Some (if is_true (at f bits) then at g bits else at h bits))
+exact Restrict (Function f ∷ Position i ∷ Number b ∷ []) =
+    of_level f.level (λ bits. Some (restricted (at f) (nat_abs i) (is_true b) bits))
+exact Exists (Function f ∷ vars) = of_level f.level (λ bits. Some (some_setting (at f) (places vars) bits))
+exact Forall (Function f ∷ vars) = of_level f.level (λ bits. Some (every_setting (at f) (places vars) bits))
+exact SumOut (Function f ∷ vars) = of_level f.level (over_all Plus (λ bits. Some (at f bits)) (places vars))
+exact Compose (Function f ∷ Position i ∷ Function g ∷ []) =
+    of_level f.level (λ bits. Some (composed (at f) (nat_abs i) (at g) bits))
+exact AndExists (Function f ∷ Function g ∷ vars) =
+    of_level f.level (λ bits. Some (some_setting (both (at f) (at g)) (places vars) bits))
 exact head others = nothing
 
 -- a call: it has its exact value where that fits
@@ -68,6 +84,7 @@ call head args = of_level (exact head args).level (λ bits. and_then ((exact hea
 -- whether a call of three arguments or more is nested calls of its first two, its first three, and so on
 abbrev pub is_nested : Head → Bool
 is_nested (Fold word) = true
+is_nested SumOut = true
 is_nested other = false
 
 -- of functions of one level: the first one's

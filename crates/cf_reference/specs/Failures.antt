@@ -20,7 +20,7 @@ abbrev pub first_failure : List Part → Option (List Bool)
 first_failure [] = None
 first_failure (part ∷ later) = option_or (failure part) (first_failure later)
 
--- a fold's step: the nested call of the arguments so far, where the head nests and there are two or more
+-- a step of nested calls: the call of the arguments so far, where the head nests and there are two or more
 abbrev pub fold_step : Head → List Meant → List Part
 fold_step head done = if is_nested head && nat_le 2 (length done) then call head done ∷ [] else []
 
@@ -29,7 +29,7 @@ abbrev pub itself : State → Tree → List Part
 itself s e = part s e ∷ []
 
 -- The subexpressions of an expression in order: those of the arguments from left to right, and then the expression itself.
--- A fold's step comes as soon as its arguments are there.
+-- A step of nested calls comes as soon as its arguments are there.
 unfoldable mutual
   pub subexpressions : State → Tree → List Part
   subexpressions s (Num n) = itself s (Num n)

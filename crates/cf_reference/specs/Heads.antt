@@ -1,17 +1,18 @@
 use Rattle.std.specs.Prelude.{ℕ, zero, suc, ◌==◌, nat_le, Bool, List, [], ◌∷◌, length, Option, Some, None, codes, if◌then◌else◌}
+use Rattle.std.specs.Option.{option_or}
 use Rattle.std.specs.Str.{bytes_eq}
 use Rattle.cf_model.specs.declared.terms.Word1.TheVariants.{Not, Neg}
 use Rattle.cf_model.specs.declared.terms.Word2.TheVariants.{And, Or, Xor, Plus, Minus, Times, Min, Max, Eq, Lt}
 use Rattle.cf_reference.specs.declared.grammar.Head.{Head}
 pub use Rattle.cf_reference.specs.declared.grammar.Kind.{Kind}
 pub use Rattle.cf_reference.specs.declared.grammar.Kind.TheVariants.{Expression as AnExpression, Variable as AVariable, Natural as ANatural, Number as ANumber, Bit as ABit}
-use Rattle.cf_reference.specs.declared.grammar.Head.TheVariants.{Const, One, Fold, Ite}
+use Rattle.cf_reference.specs.declared.grammar.Head.TheVariants.{Const, One, Fold, Ite, Restrict, Exists, Forall, SumOut, Compose, AndExists}
 
 -- The heads of calls: the word of each, and the arguments that it takes.
 
--- the words that call
-abbrev pub table : List (List ℕ × Head)
-table =
+-- the words that call, but for those over variables
+abbrev pub value_table : List (List ℕ × Head)
+value_table =
     (codes "const", Const)
     ∷ (codes "not", One Not)
     ∷ (codes "neg", One Neg)
@@ -28,13 +29,27 @@ table =
     ∷ (codes "ite", Ite)
     ∷ []
 
+-- those over variables
+abbrev pub variable_table : List (List ℕ × Head)
+variable_table =
+    (codes "restrict", Restrict)
+    ∷ (codes "exists", Exists)
+    ∷ (codes "forall", Forall)
+    ∷ (codes "sumout", SumOut)
+    ∷ (codes "compose", Compose)
+    ∷ (codes "andexists", AndExists)
+    ∷ []
+
 abbrev pub found_in : List (List ℕ × Head) → List ℕ → Option Head
 found_in [] word = None
 found_in (entry ∷ later) word = if bytes_eq word entry.0 then Some entry.1 else found_in later word
 
+unfoldable pub variable_head : List ℕ → Option Head
+variable_head word = found_in variable_table word
+
 -- what a word before `(` calls
 unfoldable pub head_of : List ℕ → Option Head
-head_of word = found_in table word
+head_of word = option_or (found_in value_table word) (variable_head word)
 
 -- The kinds of a call's arguments: those of the first ones, which all stand there, and that of the further ones, if there
 -- may be any.
@@ -57,6 +72,12 @@ signature (Fold Eq) = exactly (AnExpression ∷ AnExpression ∷ [])
 signature (Fold Lt) = exactly (AnExpression ∷ AnExpression ∷ [])
 signature (Fold other) = or_more (AnExpression ∷ AnExpression ∷ []) AnExpression
 signature Ite = exactly (AnExpression ∷ AnExpression ∷ AnExpression ∷ [])
+signature Restrict = exactly (AnExpression ∷ AVariable ∷ ABit ∷ [])
+signature Exists = or_more (AnExpression ∷ AVariable ∷ []) AVariable
+signature Forall = or_more (AnExpression ∷ AVariable ∷ []) AVariable
+signature SumOut = or_more (AnExpression ∷ AVariable ∷ []) AVariable
+signature Compose = exactly (AnExpression ∷ AVariable ∷ AnExpression ∷ [])
+signature AndExists = or_more (AnExpression ∷ AnExpression ∷ AVariable ∷ []) AVariable
 
 abbrev pub counted : ℕ → Option Kind → ℕ → Bool
 counted least None n = n == least

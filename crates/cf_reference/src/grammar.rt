@@ -38,6 +38,18 @@ pub enum Head {
     Fold(Word2),
     /// `ite(E, E, E)`
     Ite,
+    /// `restrict(E, VAR, BIT)`
+    Restrict,
+    /// `exists(E, VAR, ..)`
+    Exists,
+    /// `forall(E, VAR, ..)`
+    Forall,
+    /// `sumout(E, VAR, ..)`
+    SumOut,
+    /// `compose(E, VAR, E)`
+    Compose,
+    /// `andexists(E, E, VAR, ..)`
+    AndExists,
 }
 
 /// What an argument of a call is.
