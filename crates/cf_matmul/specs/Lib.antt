@@ -1,0 +1,3 @@
+pub mod Symbolic
+pub mod Memos
+pub mod Values
