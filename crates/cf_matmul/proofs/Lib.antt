@@ -6,3 +6,4 @@ pub mod Turns
 pub mod RowTurns
 pub mod BaseLaws
 pub mod MemoFacts
+pub mod ProductWorks

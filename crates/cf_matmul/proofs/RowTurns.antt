@@ -18,7 +18,7 @@ use Rattle.cf_comb.specs.declared.CombId.{CombId}
 use Rattle.cf_matmul.specs.Symbolic.{exit_in, callee_exit, returns_at, sums_of, row_sums, term_row_sums, HasSumRow, HaveSumRows, HasGrown, IsSumIn, JoinsRows}
 use Rattle.cf_matmul.proofs.SumRows.{HasSumRow-kept}
 use Rattle.cf_matmul.proofs.JoinLaws.{half_first, half_more}
-use Rattle.cf_matmul.proofs.Turns.{small, within_square, term_facts, term_kept, grown_trans}
+use Rattle.cf_matmul.proofs.Turns.{small, within_square, term_facts, term_kept}
 
 -- What a call that goes over a sum of pairs of middle vertices is given.
 pub record Given (t : Groupings) (g h : Gid) : Type 0 where
@@ -87,7 +87,7 @@ row_more s u now after t g h terms n i x y r li j hx hy =
     subst (λ (k : ℕ). HasSumRow u after (suc m) (row_sums t g h (take (i + 1) terms)) k r) e
     (subst (λ (v : List PairSum). HasSumRow u after (suc m) v (total (take i terms) * n + term.1 * n) r) (sym (half_more m (callee_exit p bs) (callee_exit p cs) (returns_at bs) (returns_at cs) terms i no_term li)) made)
 
-take_all : {A : Type 0} (xs : List A) (i : ℕ) → length xs ≤ i → take i xs ≡ xs
+pub take_all : {A : Type 0} (xs : List A) (i : ℕ) → length xs ≤ i → take i xs ≡ xs
 take_all [] zero h = refl
 take_all [] (suc i) h = refl
 take_all (x ∷ xs) zero h = absurd (omega (arith, h))

@@ -1,7 +1,5 @@
-use Rattle.std.proofs.Common.{◌≡◌, sym, ◌∙◌, ap, List}
-use Rattle.cf_table.specs.declared.Gid.{Gid}
+use Rattle.std.proofs.Common.{sym, ◌∙◌, ap, List}
 use Rattle.cf_comb.specs.declared.CombId.{CombId}
-use Rattle.cf_matmul.specs.declared.memo.Summed.{Summed}
 use Rattle.cf_matmul.specs.Memos.{summed_pair}
 use Rattle.cf_matmul.proofs.memo.copied_at.Goals as goal
 
