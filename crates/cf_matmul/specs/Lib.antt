@@ -1,0 +1,4 @@
+pub mod Symbolic
+pub mod Memos
+pub mod Values
+pub mod Weighings
