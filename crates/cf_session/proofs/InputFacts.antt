@@ -1,5 +1,5 @@
 -- The inputs of a circuit as variables.
-use Rattle.std.proofs.Common.{ℕ, suc, ◌≡◌, ◌≤◌, ◌<◌, ◌+◌, ◌^◌, Bool, true, false, cond, ◌||◌, List, [], ◌∷◌, ◌++◌, drop, map, length, get_or, refl, sym, ◌∙◌, ap, arith, subst, Option, Some, None, drop-cons, add-one}
+use Rattle.std.proofs.Common.{ℕ, zero, suc, ◌≡◌, ◌≤◌, ◌<◌, ◌+◌, ◌^◌, Bool, true, false, cond, ◌||◌, List, [], ◌∷◌, ◌++◌, drop, map, length, get_or, refl, sym, ◌∙◌, ap, arith, subst, Option, Some, None, drop-cons, add-one}
 use Rattle.std.specs.Prelude.{All, is_some, nat_le}
 use Rattle.std.specs.List.{list_any}
 use Rattle.std.specs.Option.{option_map, option_or}
@@ -20,7 +20,11 @@ use Rattle.cf_reference.proofs.NameLaws.{differ-vars}
 use Rattle.cf_session.specs.Sessions.{Names, names_of, state_of}
 use Rattle.cf_session.specs.Bindings.{place_in, bind}
 use Rattle.cf_session.specs.Statements.{ArePositions}
-use Rattle.cf_session.specs.Loads.{state_by}
+use Rattle.cf_session.specs.declared.faults.StepFault.{StepFault}
+use Rattle.cf_session.specs.declared.faults.StepFault.TheVariants.{NoMemory, Refused}
+use Rattle.cf_session.specs.Faults.{reason_of}
+use Rattle.cf_session.specs.Loads.{state_by, IsFaultOfNames}
+use Rattle.cf_pkg.proofs.Valued.{Keeps-same}
 use Rattle.cf_session.proofs.NameFacts.{flipped}
 use Rattle.cf_session.proofs.StatementFacts.{bind-new, names_push, positions_push}
 
@@ -249,3 +253,35 @@ inputs-there s [] = All-nil _
 inputs-there s (name ∷ later) =
     All-cons (λ n. is_among (with_inputs (with_input s name) later).variables n ≡ true) name later
     (stays (with_input s name) later name (here s name)) (inputs-there (with_input s name) later)
+
+-- before the first input
+pub inputs-none : (p : Package) (l : ℕ) (vs fs now : Names) (all : List (List ℕ)) → now ≡ vs → ArePositions p l vs
+    → HaveInputs p p l vs fs now all all
+inputs-none p l vs fs now all is h =
+    subst (λ bound. HaveInputs p p l vs fs bound all all) (sym is)
+    (record { refusal = refl; names = refl; positions = h; kept = Keeps-same p })
+
+-- the next one
+pub inputs-at : (p q : Package) (l : ℕ) (vs fs now : Names) (all : List (List ℕ)) (i : ℕ) (name : List ℕ)
+    → HaveInputs p q l vs fs now all (drop i all) → i < length all → name ≡ get_or all i name
+    → HaveInputs p q l vs fs now all (name ∷ drop (i + 1) all)
+inputs-at p q l vs fs now all i name h inside is =
+    rw add-one (subst (HaveInputs p q l vs fs now all) (drop-cons all i name inside is) h)
+
+pub inputs-fault-at : (p q : Package) (l : ℕ) (vs fs now : Names) (all rest : List (List ℕ)) (name : List ℕ) (e : StepFault)
+    → HaveInputs p q l vs fs now all (name ∷ rest) → IsFaultOfNames (input_refusal (state_by q l now fs) name) e
+    → IsFaultOfNames (inputs_refusal (state_by p l vs fs) all) e
+inputs-fault-at p q l vs fs now all rest name NoMemory h f = tt
+inputs-fault-at p q l vs fs now all rest name (Refused r) h f =
+    inputs-refused p q l vs fs now all rest name (reason_of r) h f
+
+-- behind the last one
+past : {A : Type 0} (xs : List A) (i : ℕ) → length xs ≤ i → drop i xs ≡ []
+past [] zero h = refl
+past [] (suc i) h = refl
+past (x ∷ xs) zero h = absurd (omega (arith, h))
+past (x ∷ xs) (suc i) h = past xs i (omega (arith, h))
+
+pub inputs-all : (p q : Package) (l : ℕ) (vs fs now : Names) (all : List (List ℕ)) (i : ℕ)
+    → HaveInputs p q l vs fs now all (drop i all) → length all ≤ i → HaveInputs p q l vs fs now all []
+inputs-all p q l vs fs now all i h end = subst (HaveInputs p q l vs fs now all) (past all i end) h
