@@ -25,7 +25,7 @@ use Rattle.cf_session.specs.declared.faults.StepFault.TheVariants.{NoMemory, Ref
 use Rattle.cf_session.specs.Faults.{reason_of}
 use Rattle.cf_session.specs.Loads.{state_by, IsFaultOfNames}
 use Rattle.cf_pkg.proofs.Valued.{Keeps-same}
-use Rattle.cf_session.proofs.NameFacts.{flipped}
+use Rattle.cf_session.proofs.NameFacts.{flipped, found, place-within}
 use Rattle.cf_session.proofs.StatementFacts.{bind-new, names_push, positions_push}
 
 -- whether a name is bound, by its look-up
@@ -216,11 +216,12 @@ or_right false b e = e
 
 among_append : (xs ys : List (List ℕ)) (name : List ℕ) → is_among xs name ≡ true → is_among (xs ++ ys) name ≡ true
 among_append [] ys name e = absurd (false≢true e)
-among_append (x ∷ xs) ys name e = by (bytes_eq x name) e
+among_append (x ∷ xs) ys name e = by (bytes_eq x name) e (among_append xs ys name)
   where
-    by : (t : Bool) → t || is_among xs name ≡ true → t || is_among (xs ++ ys) name ≡ true
-    by true h = refl
-    by false h = among_append xs ys name h
+    by : (t : Bool) → t || is_among xs name ≡ true → (is_among xs name ≡ true → is_among (xs ++ ys) name ≡ true)
+        → t || is_among (xs ++ ys) name ≡ true
+    by true h later = refl
+    by false h later = later h
 
 among_last : (xs : List (List ℕ)) (name : List ℕ) → is_among (xs ++ name ∷ []) name ≡ true
 among_last [] name = ap (λ t. t || false) (same name)
@@ -266,7 +267,8 @@ pub inputs-at : (p q : Package) (l : ℕ) (vs fs now : Names) (all : List (List 
     → HaveInputs p q l vs fs now all (drop i all) → i < length all → name ≡ get_or all i name
     → HaveInputs p q l vs fs now all (name ∷ drop (i + 1) all)
 inputs-at p q l vs fs now all i name h inside is =
-    rw add-one (subst (HaveInputs p q l vs fs now all) (drop-cons all i name inside is) h)
+    rw add-one
+    (subst (HaveInputs p q l vs fs now all) (drop-cons all i name inside ∙ ap (λ (n : List ℕ). n ∷ drop (suc i) all) (sym is)) h)
 
 pub inputs-fault-at : (p q : Package) (l : ℕ) (vs fs now : Names) (all rest : List (List ℕ)) (name : List ℕ) (e : StepFault)
     → HaveInputs p q l vs fs now all (name ∷ rest) → IsFaultOfNames (input_refusal (state_by q l now fs) name) e
@@ -275,13 +277,11 @@ inputs-fault-at p q l vs fs now all rest name NoMemory h f = tt
 inputs-fault-at p q l vs fs now all rest name (Refused r) h f =
     inputs-refused p q l vs fs now all rest name (reason_of r) h f
 
--- behind the last one
-past : {A : Type 0} (xs : List A) (i : ℕ) → length xs ≤ i → drop i xs ≡ []
-past [] zero h = refl
-past [] (suc i) h = refl
-past (x ∷ xs) zero h = absurd (omega (arith, h))
-past (x ∷ xs) (suc i) h = past xs i (omega (arith, h))
+-- whether a position is one of few
+pub place-below : (bound : Names) (name : List ℕ) (n : ℕ) → Some n ≡ place_in bound name → n < length bound
+place-below bound name n e =
+    let there = found (names_of bound) name n e in
+    let inside = place-within (names_of bound) name there.0 in
+    let many = count bound in
+    omega (arith, inside, there.1, many)
 
-pub inputs-all : (p q : Package) (l : ℕ) (vs fs now : Names) (all : List (List ℕ)) (i : ℕ)
-    → HaveInputs p q l vs fs now all (drop i all) → length all ≤ i → HaveInputs p q l vs fs now all []
-inputs-all p q l vs fs now all i h end = subst (HaveInputs p q l vs fs now all) (past all i end) h

@@ -1,9 +1,8 @@
 -- The outputs of a circuit as functions.
-use Rattle.std.proofs.Common.{ℕ, zero, suc, ◌≡◌, ◌≤◌, ◌<◌, ◌+◌, Bool, true, false, cond, ◌||◌, List, [], ◌∷◌, ◌++◌, drop, drop-cons, add-one, get_or, map, length, refl, sym, ◌∙◌, ap, arith, subst, Option, Some, None}
+use Rattle.std.proofs.Common.{ℕ, zero, suc, ◌≡◌, ◌≤◌, ◌<◌, ◌+◌, Bool, true, false, cond, ◌||◌, List, [], ◌∷◌, ◌++◌, drop, map, length, refl, sym, ◌∙◌, ap, arith, subst, Option, Some, None}
 use Rattle.std.specs.Prelude.{All, slice_get}
 use Rattle.std.specs.List.{list_any}
 use Rattle.std.specs.Str.{bytes_eq}
-use Rattle.std.proofs.lemmas.List.{append_assoc, append-nil}
 use Rattle.std.proofs.lemmas.Bool.{false≢true}
 use Rattle.std.proofs.lemmas.Option.{same_Some, none-some, slice_get_within}
 use Rattle.std.proofs.lemmas.List.Elements.{All-cons, All-nil, All-head, All-tail}
@@ -145,32 +144,9 @@ outputs-differ s prefix function (output ∷ later) differ free =
     (differ-let s whole (function output) differ (or_first (is_among s.variables whole) (outputs_clash s prefix later) free))
     (or_second (is_among s.variables whole) (outputs_clash s prefix later) free)
 
--- behind the last one
-past : {A : Type 0} (xs : List A) (i : ℕ) → length xs ≤ i → drop i xs ≡ []
-past [] zero h = refl
-past [] (suc i) h = refl
-past (x ∷ xs) zero h = absurd (omega (arith, h))
-past (x ∷ xs) (suc i) h = past xs i (omega (arith, h))
-
 -- Whether a test holds of some name comes to whether it does of one that is left.
 abbrev pub ComesTo : (List ℕ → Bool) → List Out → List Out → Type 0
 ComesTo test all left = list_any test (names_out all) ≡ list_any test (names_out left)
-
-pub clash-at : (test : List ℕ → Bool) (all : List Out) (i : ℕ) (out : Out) → ComesTo test all (drop i all) → i < length all
-    → out ≡ get_or all i out → ComesTo test all (out ∷ drop (i + 1) all)
-clash-at test all i out h inside is = rw add-one (subst (ComesTo test all) (drop-cons all i out inside is) h)
-
-pub clash-found : (test : List ℕ → Bool) (all rest : List Out) (out : Out) → ComesTo test all (out ∷ rest)
-    → test out.name ≡ true → list_any test (names_out all) ≡ true
-clash-found test all rest out h e = h ∙ ap (λ b. b || list_any test (names_out rest)) e
-
-pub clash-next : (test : List ℕ → Bool) (all rest : List Out) (out : Out) → ComesTo test all (out ∷ rest)
-    → test out.name ≡ false → ComesTo test all rest
-clash-next test all rest out h e = h ∙ ap (λ b. b || list_any test (names_out rest)) e
-
-pub clash-none : (test : List ℕ → Bool) (all : List Out) (i : ℕ) → ComesTo test all (drop i all) → length all ≤ i
-    → list_any test (names_out all) ≡ false
-clash-none test all i h end = h ∙ ap (λ (left : List Out). list_any test (names_out left)) (past all i end)
 
 -- Some names are bound, and the others are left.
 abbrev pub HasBound : Names → Names → List ℕ → List Out → List Func → ℕ → Type 0
@@ -178,41 +154,6 @@ HasBound before now prefix outputs built i =
     bind_outputs before prefix (names_out outputs) built
     ≡ bind_outputs now prefix (names_out (drop i outputs)) (drop i built)
 
-pub bound-next : (before now next : Names) (prefix name : List ℕ) (outputs : List Out) (built : List Func) (i : ℕ) (out : Out) (f : Func)
-    → HasBound before now prefix outputs built i → i < length outputs → length built ≡ length outputs
-    → out ≡ get_or outputs i out → f ≡ get_or built i f → name ≡ output_name prefix out.name → next ≡ bind now name f
-    → HasBound before next prefix outputs built (i + 1)
-bound-next before now next prefix name outputs built i out f h inside many there function named is =
-    rw add-one
-    (h
-    ∙ ap (λ (left : List Out). bind_outputs now prefix (names_out left) (drop i built)) (drop-cons outputs i out inside there)
-    ∙ ap (bind_outputs now prefix (names_out (out ∷ drop (suc i) outputs))) (drop-cons built i f (omega (arith, inside, many)) function)
-    ∙ ap (λ n. bind_outputs (bind now n f) prefix (names_out (drop (suc i) outputs)) (drop (suc i) built)) (sym named)
-    ∙ ap (λ (b : Names). bind_outputs b prefix (names_out (drop (suc i) outputs)) (drop (suc i) built)) (sym is))
-
-pub bound-all : (before now : Names) (prefix : List ℕ) (outputs : List Out) (built : List Func) (i : ℕ)
-    → HasBound before now prefix outputs built i → length outputs ≤ i → length built ≡ length outputs
-    → now ≡ bind_outputs before prefix (names_out outputs) built
-bound-all before now prefix outputs built i h end many =
-    sym
-    (h ∙ ap (λ (left : List Out). bind_outputs now prefix (names_out left) (drop i built)) (past outputs i end)
-    ∙ ap (bind_outputs now prefix []) (past built i (omega (arith, end, many))))
-
 -- Some positions are noted, and the others are left.
 abbrev pub HasPlaced : (List ℕ → ℕ) → List (List ℕ) → List ℕ → ℕ → Type 0
 HasPlaced at names placed i = map at names ≡ placed ++ map at (drop i names)
-
-pub placed-next : (at : List ℕ → ℕ) (names : List (List ℕ)) (placed next : List ℕ) (i n : ℕ) (name : List ℕ)
-    → HasPlaced at names placed i → i < length names → name ≡ get_or names i name → n ≡ at name
-    → next ≡ placed ++ n ∷ [] → HasPlaced at names next (i + 1)
-placed-next at names placed next i n name h inside there here is =
-    rw add-one
-    (h ∙ ap (λ left. placed ++ map at left) (drop-cons names i name inside there)
-    ∙ ap (λ m. placed ++ m ∷ map at (drop (suc i) names)) (sym here)
-    ∙ sym (append_assoc placed (n ∷ []) (map at (drop (suc i) names)))
-    ∙ ap (λ ps. ps ++ map at (drop (suc i) names)) (sym is))
-
-pub placed-all : (at : List ℕ → ℕ) (names : List (List ℕ)) (placed : List ℕ) (i : ℕ) → HasPlaced at names placed i
-    → length names ≤ i → placed ≡ map at names
-placed-all at names placed i h end =
-    sym (h ∙ ap (λ left. placed ++ map at left) (past names i end) ∙ append-nil placed)
