@@ -3,7 +3,7 @@ use Rattle.cf_reference.specs.Reasons as reason
 use Rattle.cf_pkg.specs.declared.jobs.OpFault.{OpFault}
 use Rattle.cf_pkg.specs.declared.jobs.OpFault.TheVariants as op
 use Rattle.cf_session.specs.declared.faults.Refusal.{Refusal}
-use Rattle.cf_session.specs.declared.faults.Refusal.TheVariants.{NoLevel, LevelAgain, NoName, Taken, TooManyVars, LevelsDiffer, BadLevel, OutOfRange, Overflow}
+use Rattle.cf_session.specs.declared.faults.Refusal.TheVariants.{NoLevel, LevelAgain, NoName, Taken, TooManyVars, LevelsDiffer, BadLevel, OutOfRange, Overflow, NoFile, FileTooLarge, Circuit, Links}
 use Rattle.cf_session.specs.declared.faults.StepFault.{StepFault}
 use Rattle.cf_session.specs.declared.faults.StepFault.TheVariants.{NoMemory, Refused}
 
@@ -18,6 +18,10 @@ reason_of LevelsDiffer = reason.LevelsDiffer
 reason_of BadLevel = reason.BadLevel
 reason_of OutOfRange = reason.OutOfRange
 reason_of (Overflow at) = reason.Overflow (bits at)
+reason_of NoFile = reason.NoFile
+reason_of FileTooLarge = reason.FileTooLarge
+reason_of (Circuit line why) = reason.Circuit (record { line = line; why = why })
+reason_of (Links fault) = reason.Links fault
 
 -- the fault of an operation as that of an expression
 abbrev pub fault_of : OpFault → StepFault

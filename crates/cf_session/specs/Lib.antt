@@ -7,4 +7,6 @@ pub mod Values
 pub mod Building
 pub mod Keeping
 pub mod Statements
+pub mod Contents
+pub mod Loads
 pub mod Stepping

@@ -1,20 +1,32 @@
-use Rattle.std.specs.Prelude.{◌≡◌, ◌≤◌, ℕ, Bool, true, false, not, ◌&&◌, is_some, List, [], ◌++◌, IsTrue}
+use Rattle.std.specs.Prelude.{◌≡◌, ◌<◌, ◌≤◌, ℕ, Bool, true, false, not, ◌&&◌, is_some, List, [], ◌++◌, IsTrue}
 use Rattle.std.specs.Prelude.{Result, Ok, Err}
 use Rattle.cf_io.specs.Causes.{Rose}
-use Rattle.cf_io.specs.Shown.{SinkView}
-use Rattle.cf_reference.specs.Trees.{Statement, Empty, Level, Value, First}
+use Rattle.cf_io.specs.Shown.{FilesView, SinkView, FilesAreTold}
+use Rattle.cf_reference.specs.Trees.{Statement, Empty, Level, Load, Value, First}
 use Rattle.cf_reference.specs.Carrying.{Outcome, Refuses, Goes}
 use Rattle.cf_reference.specs.States.{State}
+use Rattle.cf_reference.specs.Loading.{file_limit}
 use Rattle.cf_reference.specs.Scripts.{refuses}
 use Rattle.cf_pkg.specs.Packages.{Keeps}
 use Rattle.cf_session.specs.declared.step.Stepped.{Stepped}
 use Rattle.cf_session.specs.declared.step.Stepped.TheVariants as stepped
 use Rattle.cf_session.specs.declared.faults.Refusal.{Refusal}
+use Rattle.cf_session.specs.declared.faults.Refusal.TheVariants.{NoFile, FileTooLarge}
 use Rattle.cf_session.specs.declared.faults.StepFault.{StepFault}
 use Rattle.cf_session.specs.declared.faults.StepFault.TheVariants.{NoMemory, Refused}
 use Rattle.cf_session.specs.Faults.{reason_of}
 use Rattle.cf_session.specs.Building.{Grows}
 use Rattle.cf_session.specs.Sessions.{Held, state_of}
+
+-- whether a statement reads a file
+abbrev pub reads_file : Statement → Bool
+reads_file (Load prefix file) = true
+reads_file others = false
+
+-- Names and contents of files are told, where the statement reads one.
+abbrev pub FilesAreToldFor : FilesView → Statement → Type 0
+FilesAreToldFor files (Load prefix file) = FilesAreTold files
+FilesAreToldFor files others = Unit {0}
 
 -- what an outcome writes, a refusal apart
 abbrev pub reply_in : Outcome → List ℕ
@@ -34,7 +46,7 @@ abbrev pub LeadsTo : Outcome → Held → Held → Stepped → Type 0
 LeadsTo outcome old new stepped.Written = (refuses outcome ≡ false) × (outcome ≡ Goes (state_of new) (reply_in outcome))
 LeadsTo outcome old new (stepped.Refused r) = (outcome ≡ Refuses (reason_of r)) × Grows old new
 LeadsTo outcome old new stepped.WriteFault = (refuses outcome ≡ false) × Grows old new
-LeadsTo outcome old new stepped.FileFault = ⊥
+LeadsTo outcome old new stepped.FileFault = Grows old new
 LeadsTo outcome old new stepped.NoMemory = Grows old new
 
 -- The whole reply was appended, or nothing, or where a write failed a front of the reply.
@@ -42,7 +54,7 @@ abbrev pub Replies : Outcome → List ℕ → List ℕ → Stepped → Type 0
 Replies outcome before after stepped.Written = after ≡ before ++ reply_in outcome
 Replies outcome before after (stepped.Refused r) = after ≡ before
 Replies outcome before after stepped.WriteFault = AppendsFront before after (reply_in outcome)
-Replies outcome before after stepped.FileFault = ⊥
+Replies outcome before after stepped.FileFault = after ≡ before
 Replies outcome before after stepped.NoMemory = after ≡ before
 
 -- The answer is that of the outcome.
@@ -52,6 +64,12 @@ IsAnswerTo outcome (stepped.Refused r) = outcome ≡ Refuses (reason_of r)
 IsAnswerTo outcome stepped.WriteFault = ⊥
 IsAnswerTo outcome stepped.FileFault = ⊥
 IsAnswerTo outcome stepped.NoMemory = ⊥
+
+-- Nothing was written, unless there was a reply to be written.
+abbrev pub IsSilent : Stepped → SinkView → SinkView → Type 0
+IsSilent stepped.Written before after = Unit {0}
+IsSilent stepped.WriteFault before after = Unit {0}
+IsSilent others before after = after ≡ before
 
 -- The statement never wants memory.
 abbrev pub NeedsNoMemory : Statement → Type 0
@@ -85,7 +103,7 @@ Does outcome old new before after stepped.Written =
     (refuses outcome ≡ false) × (outcome ≡ Goes (state_of new) (reply_in outcome)) × Keeps old.pkg new.pkg × Wrote before after (reply_in outcome)
 Does outcome old new before after (stepped.Refused r) = (outcome ≡ Refuses (reason_of r)) × Grows old new × (after ≡ before)
 Does outcome old new before after stepped.WriteFault = (refuses outcome ≡ false) × Grows old new × Failed before after (reply_in outcome)
-Does outcome old new before after stepped.FileFault = ⊥
+Does outcome old new before after stepped.FileFault = Grows old new × (after ≡ before)
 Does outcome old new before after stepped.NoMemory = Grows old new × (after ≡ before)
 
 -- whether a statement wants a level
@@ -116,8 +134,19 @@ AnswersAlways (Ok made) text before after other = ⊥
 AnswersAlways (Err r) text before after (stepped.Refused q) = (q ≡ r) × (after ≡ before)
 AnswersAlways (Err r) text before after other = ⊥
 
+-- the answer where a statement isn't carried out
+abbrev pub answer_of : StepFault → Stepped
+answer_of NoMemory = stepped.NoMemory
+answer_of (Refused r) = stepped.Refused r
+
 -- the answer of a change of the session
 abbrev pub stepped_by : Result (Unit {0}) StepFault → Stepped
 stepped_by (Ok done) = stepped.Written
-stepped_by (Err NoMemory) = stepped.NoMemory
-stepped_by (Err (Refused r)) = stepped.Refused r
+stepped_by (Err fault) = answer_of fault
+
+-- What the files show of an answer: a fault, a miss, or the bytes that were given.
+abbrev pub ShowsAnswer : FilesView → FilesView → Stepped → Type 0
+ShowsAnswer old new stepped.FileFault = Rose old.faults new.faults
+ShowsAnswer old new (stepped.Refused NoFile) = Rose old.misses new.misses
+ShowsAnswer old new (stepped.Refused FileTooLarge) = file_limit < new.given
+ShowsAnswer old new others = Unit {0}

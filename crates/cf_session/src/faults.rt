@@ -5,12 +5,14 @@ ghost use Rattle.cf_reference.specs.Reasons.{number};
 ghost use Rattle.cf_session.specs.Faults.{reason_of};
 
 use cf_bits::Bits;
+use cf_circuits::faults::{BlifWhy, LinkFault};
 use cf_names::NoMemory;
 use cf_pkg::OpFault;
+use std::fmt;
 use thiserror::Error;
 
 /// Why a statement is refused.
-#[derive(Clone, Copy, Debug, Error)]
+#[derive(Drop, Error)]
 pub enum Refusal {
     #[error("there is no level yet")]
     NoLevel,
@@ -31,6 +33,21 @@ pub enum Refusal {
     /// A value doesn't fit. The assignment is the least at which it doesn't.
     #[error("the value at {0:?} does not fit")]
     Overflow(Bits),
+    #[error("there is no such file")]
+    NoFile,
+    #[error("the file has more than 8,388,608 bytes")]
+    FileTooLarge,
+    /// The number of the first faulty line, and why it is faulty.
+    #[error("line {0} is faulty: {1:?}")]
+    Circuit(u64, BlifWhy),
+    #[error("the models can't be linked")]
+    Links(LinkFault),
+}
+
+impl fmt::Debug for Refusal {
+    fn fmt<W: fmt::Write>(&self, f: &mut fmt::Formatter<W>) -> fmt::Result {
+        write!(f, "Refusal({})", self.number())
+    }
 }
 
 impl Refusal {
@@ -48,12 +65,16 @@ impl Refusal {
             Refusal::BadLevel => 10,
             Refusal::OutOfRange => 11,
             Refusal::Overflow(_) => 14,
+            Refusal::NoFile => 15,
+            Refusal::FileTooLarge => 16,
+            Refusal::Circuit(..) => 17,
+            Refusal::Links(_) => 18,
         }
     }
 }
 
 /// Why an expression has no function.
-#[derive(Clone, Copy, Debug, Error)]
+#[derive(Debug, Drop, Error)]
 pub enum StepFault {
     #[error("no memory")]
     NoMemory,

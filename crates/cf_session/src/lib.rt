@@ -6,6 +6,8 @@ mod arguments;
 mod bindings;
 mod build;
 pub mod faults;
+mod files;
+mod load;
 mod recall;
 mod session;
 mod statements;

@@ -1,21 +1,24 @@
 //! A statement.
 
-ghost use Rattle.std.specs.Prelude.{◌≡◌, ◌≢◌, ◌≤◌, ◌++◌, [], length, IsSome, IfErr, OnOk, OnErr};
+ghost use Rattle.std.specs.Prelude.{◌≡◌, ◌≢◌, ◌<◌, ◌≤◌, ◌++◌, [], true, false, length, IsSome, IfErr, OnOk, OnErr};
 ghost use Rattle.cf_io.specs.Causes.{Rose};
-ghost use Rattle.cf_io.specs.Shown.{WritingIsTold};
+ghost use Rattle.cf_io.specs.Shown.{SinkView, FilesAreTold, WritingIsTold};
 ghost use Rattle.cf_pkg.specs.Packages.{Keeps};
 ghost use Rattle.cf_reference.specs.Trees.{Formed, IsFormed};
 ghost use Rattle.cf_reference.specs.Trees as tree;
 ghost use Rattle.cf_reference.specs.Answers.{list_reply};
-ghost use Rattle.cf_reference.specs.States.{is_among};
-ghost use Rattle.cf_reference.specs.Carrying.{Goes, define, tell_list, step};
+ghost use Rattle.cf_reference.specs.States.{Files as Entries, is_among};
+ghost use Rattle.cf_reference.specs.Loading.{file_limit};
+ghost use Rattle.cf_reference.specs.Carrying.{Goes, define, load_circuit, tell_list, step};
 ghost use Rattle.cf_script.specs.Views.{tree_of, statement_of};
 ghost use Rattle.cf_session.specs.Sessions.{state_of};
-ghost use Rattle.cf_session.specs.Stepping.{LeadsTo, Replies, IsAnswerTo, NeedsNoMemory, Puts, Does, wants_level, lacks_level, Answers, AnswersAlways, stepped_by};
+ghost use Rattle.cf_session.specs.Stepping.{LeadsTo, Replies, IsAnswerTo, NeedsNoMemory, Puts, Does, wants_level, lacks_level, Answers, AnswersAlways, answer_of, stepped_by, reads_file, FilesAreToldFor, IsSilent, ShowsAnswer};
+ghost use Rattle.cf_session.specs.Contents.{KeepsFiles};
 ghost use Rattle.cf_session.specs.Statements.{IsFaultOfStep};
 ghost use Rattle.cf_session.specs.Building.{Grows};
 
 use crate::faults::{Refusal, StepFault};
+use crate::load::LoadFault;
 use crate::session::Session;
 use cf_io::{Files, Sink, put_all};
 use cf_script::{Expr, NameSlices, Statement};
@@ -23,7 +26,7 @@ use cf_text::{Text, bits_text, listed_text};
 use cf_witness::Listing;
 
 /// What a statement did.
-#[derive(Clone, Copy, Debug)]
+#[derive(Debug, Drop)]
 pub enum Stepped {
     /// It was carried out, and its whole reply was written.
     Written,
@@ -59,6 +62,16 @@ fn put_listing<K: Sink>(out: &mut K, listing: Listing, text: &mut Text) -> bool
     put_text(out, text)
 }
 
+/// The answer where a statement isn't carried out.
+fn faulted(fault: StepFault) -> Stepped
+    ensures { result ≡ answer_of fault }
+{
+    match fault {
+        StepFault::NoMemory => Stepped::NoMemory,
+        StepFault::Refused(refusal) => Stepped::Refused(refusal),
+    }
+}
+
 /// Writes an answer, if there is one.
 fn answer<K: Sink>(made: Result<(), StepFault>, text: &Text, out: &mut K) -> Stepped
     ensures { Answers made text.now (K.shown out.old) (K.shown out.new) result }
@@ -71,8 +84,7 @@ fn answer<K: Sink>(made: Result<(), StepFault>, text: &Text, out: &mut K) -> Ste
                 Stepped::WriteFault
             }
         }
-        Err(StepFault::NoMemory) => Stepped::NoMemory,
-        Err(StepFault::Refused(refusal)) => Stepped::Refused(refusal),
+        Err(fault) => faulted(fault),
     }
 }
 
@@ -98,8 +110,7 @@ fn changed(change: Result<(), StepFault>) -> Stepped
 {
     match change {
         Ok(()) => Stepped::Written,
-        Err(StepFault::NoMemory) => Stepped::NoMemory,
-        Err(StepFault::Refused(refusal)) => Stepped::Refused(refusal),
+        Err(fault) => faulted(fault),
     }
 }
 
@@ -171,27 +182,40 @@ impl Session {
                     Stepped::WriteFault
                 }
             }
-            Err(StepFault::NoMemory) => Stepped::NoMemory,
-            Err(StepFault::Refused(refusal)) => Stepped::Refused(refusal),
+            Err(fault) => faulted(fault),
         }
     }
 
-    /// Carries out a statement.
-    fn step_on<F: Files, K: Sink>(
-        &mut self,
-        files: &mut F,
-        statement: &Statement,
-        text: &mut Text,
-        out: &mut K,
-    ) -> Stepped
-        requires { Formed (statement_of statement.now) }
-        ensures does { Does
-            (step (F.shown files.old).entries (state_of self.old) (statement_of statement.now))
-            self.old self.new (K.shown out.old) (K.shown out.new) result }
-        ensures memory { NeedsNoMemory (statement_of statement.now) → result ≢ Stepped.NoMemory }
-        ensures files { files.new ≡ files.old }
+    /// Loads a circuit, if there is a level.
+    fn step_load<F: Files>(&mut self, files: &mut F, prefix: &[u8], file: &[u8]) -> Stepped
+        ensures does { FilesAreTold (F.shown files.old) → (at : SinkView) → Does
+            (load_circuit (F.shown files.old).entries (state_of self.old) prefix.now file.now)
+            self.old self.new at at result }
+        ensures names { result ≢ Stepped.Written → Grows self.old self.new }
+        ensures kept { Keeps self.old.pkg self.new.pkg }
+        ensures shows { ShowsAnswer (F.shown files.old) (F.shown files.new) result }
+        ensures write { result ≢ Stepped.WriteFault }
+        ensures files { KeepsFiles (F.shown files.old) (F.shown files.new) }
     {
-        let _ = files;
+        if self.level.is_none() {
+            return Stepped::Refused(Refusal::NoLevel);
+        }
+        match self.load(files, prefix, file) {
+            Ok(()) => Stepped::Written,
+            Err(LoadFault::Step(fault)) => faulted(fault),
+            Err(LoadFault::FileFault) => Stepped::FileFault,
+        }
+    }
+
+    /// Carries out a statement that reads no file.
+    fn step_on<K: Sink>(&mut self, statement: &Statement, text: &mut Text, out: &mut K) -> Stepped
+        requires formed { Formed (statement_of statement.now) }
+        requires no_file { reads_file (statement_of statement.now) ≡ false }
+        ensures does { (entries : Entries) → Does (step entries (state_of self.old) (statement_of statement.now))
+            self.old self.new (K.shown out.old) (K.shown out.new) result }
+        ensures file { result ≢ Stepped.FileFault }
+        ensures memory { NeedsNoMemory (statement_of statement.now) → result ≢ Stepped.NoMemory }
+    {
         if self.lacks_level(statement) {
             return Stepped::Refused(Refusal::NoLevel);
         }
@@ -211,12 +235,14 @@ impl Session {
             Statement::Equal(name, other) => answer(self.equal(name, other, text), text, out),
             Statement::Size(name) => answer(self.size(name, text), text, out),
             Statement::Stats => answer(self.stats(text), text, out),
+            Statement::Load(..) => unreachable!(),
         }
     }
 
     /// Carries out a statement, and writes its reply. Whatever the answer is but `Written`, level
     /// and names are as before; and nothing was written, but on `WriteFault` a front of the reply.
-    /// The files are left alone. The text is room for the reply, and what it holds counts for nothing.
+    /// Only `load` reads a file. The text is room for the reply, and what it holds counts for
+    /// nothing.
     pub fn step<F: Files, K: Sink>(
         &mut self,
         files: &mut F,
@@ -225,23 +251,45 @@ impl Session {
         out: &mut K,
     ) -> Stepped
         requires { Formed (statement_of statement.now) }
-        ensures leads { LeadsTo
+
+        // Where the files that the statement reads are told, the reference says what it leads to and
+        // what it replies. Only a fault or want of memory cuts it off.
+        ensures leads { FilesAreToldFor (F.shown files.old) (statement_of statement.now) → LeadsTo
             (step (F.shown files.old).entries (state_of self.old) (statement_of statement.now))
             self.old self.new result }
-        ensures replies { WritingIsTold (K.shown out.old) → Replies
+        ensures replies { FilesAreToldFor (F.shown files.old) (statement_of statement.now) →
+            WritingIsTold (K.shown out.old) → Replies
             (step (F.shown files.old).entries (state_of self.old) (statement_of statement.now))
             (K.shown out.old).written (K.shown out.new).written result }
-        ensures complete { (Rose (K.shown out.old).faults (K.shown out.new).faults → ⊥) →
+        ensures complete { FilesAreToldFor (F.shown files.old) (statement_of statement.now) →
+            ¬ Rose (F.shown files.old).faults (F.shown files.new).faults →
+            ¬ Rose (K.shown out.old).faults (K.shown out.new).faults →
             result ≢ Stepped.NoMemory → IsAnswerTo
             (step (F.shown files.old).entries (state_of self.old) (statement_of statement.now)) result }
+
+        // Whatever the files tell.
+        ensures names { result ≢ Stepped.Written → Grows self.old self.new }
+        ensures silent { IsSilent result (K.shown out.old) (K.shown out.new) }
         ensures memory { NeedsNoMemory (statement_of statement.now) → result ≢ Stepped.NoMemory }
+        ensures reads { result ≡ Stepped.FileFault → reads_file (statement_of statement.now) ≡ true }
+        ensures unread { reads_file (statement_of statement.now) ≡ false → files.new ≡ files.old }
+
+        // Faults and refused files have causes.
         ensures write { result ≡ Stepped.WriteFault → Rose (K.shown out.old).faults (K.shown out.new).faults }
-        ensures file { result ≢ Stepped.FileFault }
+        ensures file { result ≡ Stepped.FileFault → Rose (F.shown files.old).faults (F.shown files.new).faults }
+        ensures missing { result ≡ Stepped.Refused Refusal.NoFile →
+            Rose (F.shown files.old).misses (F.shown files.new).misses }
+        ensures large { result ≡ Stepped.Refused Refusal.FileTooLarge → file_limit < (F.shown files.new).given }
+
+        // What stays as it was.
         ensures kept { Keeps self.old.pkg self.new.pkg }
         ensures told { (K.shown out.new).tells ≡ (K.shown out.old).tells }
         ensures later { (K.shown out.old).faults ≤ (K.shown out.new).faults }
-        ensures files { files.new ≡ files.old }
+        ensures files { KeepsFiles (F.shown files.old) (F.shown files.new) }
     {
-        self.step_on(files, statement, text, out)
+        match statement {
+            Statement::Load(prefix, file) => self.step_load(files, prefix, file),
+            _ => self.step_on(statement, text, out),
+        }
     }
 }
