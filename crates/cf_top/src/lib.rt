@@ -4,6 +4,7 @@
 mod reason;
 mod script;
 mod status;
+mod sure;
 
 ghost use Rattle.std.specs.Prelude.{◌≡◌, ◌≢◌, ℕ, ◌+◌, ◌≤◌, ◌⊎◌, List, [], ◌∷◌, ◌++◌, IsTrue, true, false, map, string_bytes};
 ghost use Rattle.cf_io.specs.Causes.{Rose};
