@@ -18,10 +18,10 @@ abbrev pub with_package : Held → Package → Held
 with_package h q = record { pkg = q; level = h.level; variables = h.variables; functions = h.functions }
 
 -- names with their functions, as a state has them
-abbrev bindings : Package → Names → List (List ℕ × FlatFunction)
+abbrev pub bindings : Package → Names → List (List ℕ × FlatFunction)
 bindings p bound = map (λ b. (b.0, meaning p b.1)) bound
 
-same_bindings : (p q : Package) (bound : Names) → All (λ b. OwnsFunction p b.1) bound → Keeps p q
+pub same_bindings : (p q : Package) (bound : Names) → All (λ b. OwnsFunction p b.1) bound → Keeps p q
     → bindings q bound ≡ bindings p bound
 same_bindings p q [] owned k = refl
 same_bindings p q (b ∷ later) owned k =
@@ -29,14 +29,14 @@ same_bindings p q (b ∷ later) owned k =
     ap (λ (f : FlatFunction). (b.0, f) ∷ bindings q later) here
     ∙ ap (λ (bs : List (List ℕ × FlatFunction)). (b.0, meaning p b.1) ∷ bs) (same_bindings p q later (All-tail (λ b. OwnsFunction p b.1) b later owned) k)
 
-all_owned : (p q : Package) (bound : Names) → All (λ b. OwnsFunction p b.1) bound → Keeps p q
+pub all_owned : (p q : Package) (bound : Names) → All (λ b. OwnsFunction p b.1) bound → Keeps p q
     → All (λ b. OwnsFunction q b.1) bound
 all_owned p q [] owned k = All-nil _
 all_owned p q (b ∷ later) owned k =
     All-cons (λ b. OwnsFunction q b.1) b later (k.functions b.1 (All-head (λ b. OwnsFunction p b.1) b later owned)).owned
     (all_owned p q later (All-tail (λ b. OwnsFunction p b.1) b later owned) k)
 
-means_kept : (p q : Package) (f : Func) (flat : FlatFunction) → Keeps p q → Means p f flat → Means q f flat
+pub means_kept : (p q : Package) (f : Func) (flat : FlatFunction) → Keeps p q → Means p f flat → Means q f flat
 means_kept p q f flat k m =
     let kept = k.functions f m.owned in record { owned = kept.owned; is_it = kept.is_it ∙ m.is_it }
 

@@ -21,3 +21,9 @@ pub mod ListFacts
 pub mod StatementFacts
 pub mod AnswerFacts
 pub mod StepFacts
+pub mod InputFacts
+pub mod OutputFacts
+pub mod LoadFacts
+pub mod ReadFacts
+pub mod FewReasons
+pub mod DoesFacts

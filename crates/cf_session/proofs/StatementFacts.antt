@@ -52,7 +52,7 @@ level-goes h n l e fits is =
     ∙ ap (λ k. Goes (state_of (record { pkg = h.pkg; level = Some k; variables = h.variables; functions = h.functions })) []) is
 
 -- a function that a name is bound to
-bind_owned : (p : Package) (bound : Names) (name : List ℕ) (f : Func) → All (λ b. OwnsFunction p b.1) bound
+pub bind_owned : (p : Package) (bound : Names) (name : List ℕ) (f : Func) → All (λ b. OwnsFunction p b.1) bound
     → OwnsFunction p f → All (λ b. OwnsFunction p b.1) (bind bound name f)
 bind_owned p [] name f all owned = All-cons (λ b. OwnsFunction p b.1) (name, f) [] owned (All-nil _)
 bind_owned p (b ∷ later) name f all owned =
@@ -65,7 +65,7 @@ bind_owned p (b ∷ later) name f all owned =
     by false rest =
         All-cons (λ b. OwnsFunction p b.1) b (bind later name f) (All-head (λ b. OwnsFunction p b.1) b later all) rest
 
-bind_flat : (p : Package) (bound : Names) (name : List ℕ) (f : Func)
+pub bind_flat : (p : Package) (bound : Names) (name : List ℕ) (f : Func)
     → map (λ b. (b.0, meaning p b.1)) (bind bound name f)
     ≡ states.bind (map (λ b. (b.0, meaning p b.1)) bound) name (meaning p f)
 bind_flat p [] name f = refl
@@ -117,7 +117,7 @@ bind-new (b ∷ later) name f free = by (bytes_eq name b.0) (ap (λ t. t || is_a
     by true free rest = absurd (false≢true (sym free))
     by false free rest = ap (λ bs. b ∷ bs) (rest free)
 
-names_push : (bound : Names) (name : List ℕ) (f : Func)
+pub names_push : (bound : Names) (name : List ℕ) (f : Func)
     → names_of (bound ++ (name, f) ∷ []) ≡ names_of bound ++ name ∷ []
 names_push [] name f = refl
 names_push (b ∷ later) name f = ap (λ ns. b.0 ∷ ns) (names_push later name f)
@@ -163,7 +163,7 @@ is_new old new names i name e h free once =
     ∙ ap (λ b. b || is_among (take i names) name) (none-at (is_among (names_of old)) names i name h free)
     ∙ repeats-none names i name h once
 
-positions_push : (p q : Package) (level : ℕ) (bound : Names) (name : List ℕ) (f : Func) → ArePositions p level bound
+pub positions_push : (p q : Package) (level : ℕ) (bound : Names) (name : List ℕ) (f : Func) → ArePositions p level bound
     → Keeps p q → Means q f (variable level (length bound)) → ArePositions q level (bound ++ (name, f) ∷ [])
 positions_push p q level bound name f h k m i b e = by (slice_get_cases bound i).1
   where

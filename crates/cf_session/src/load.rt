@@ -1,11 +1,12 @@
 //! Circuits of files as functions of the session.
 
-ghost use Rattle.std.specs.Prelude.{◌≡◌, ◌≤◌, ◌^◌, ℕ, List, [], true, None, map, length, All, IsSome, IfOk, IfErr, OnOk, OnErr};
+ghost use Rattle.std.specs.Prelude.{◌≡◌, ◌<◌, ◌≤◌, ℕ, List, [], true, None, map, length, All, IsSome, IfOk, IfErr, OnOk, OnErr};
 ghost use Rattle.std.specs.List.{list_any};
 ghost use Rattle.std.specs.Str.{bytes_eq};
 ghost use Rattle.cf_model.specs.Renumbering.{place};
 ghost use Rattle.cf_io.specs.Shown.{FilesAreTold};
-ghost use Rattle.cf_pkg.specs.Packages.{Keeps};
+ghost use Rattle.cf_pkg.specs.Packages.{OwnsFunction, Keeps};
+ghost use Rattle.cf_model.specs.Diagrams.{IsGood};
 ghost use Rattle.cf_reference.specs.States.{level_in, is_among};
 ghost use Rattle.cf_reference.specs.Carrying.{Goes, load_bytes, load_circuit};
 ghost use Rattle.cf_reference.specs.Loading.{file_limit, with_input, with_inputs, input_refusal, inputs_refusal, output_name};
@@ -233,6 +234,16 @@ fn with_outputs(
     Ok(bound)
 }
 
+/// A package that has functions is good. It does nothing.
+fn law_of(pkg: &Pkg, functions: &[Func])
+    requires owned { All (OwnsFunction pkg.now) functions.now }
+    ensures { 0 < length functions.now → IsGood pkg.now.groupings.levels }
+{
+    if let Some(f) = functions.first() {
+        pkg.law(*f);
+    }
+}
+
 impl Session {
     /// Makes the inputs of a circuit variables, and binds a function to the name of each output. If
     /// it fails, level and names are as before.
@@ -264,6 +275,7 @@ impl Session {
         }
         let positions = positions_of(self.alloc, &variables, inputs)?;
         let built = build(self.alloc, &mut self.pkg, flat, level, positions.as_slice())?;
+        law_of(&self.pkg, built.as_slice());
         let functions = with_outputs(
             self.alloc,
             &self.functions,
