@@ -1,18 +1,25 @@
 -- A statement that reads no file isn't refused for one.
-use Rattle.std.proofs.Common.{ℕ, ◌≡◌, ◌≤◌, Bool, true, false, List, [], ◌∷◌, length, sym, subst, arith, Option, Some, None}
-use Rattle.std.specs.Prelude.{is_some, is_none, not, nat_le}
+use Rattle.std.proofs.Common.{ℕ, ◌≡◌, ◌≤◌, ◌^◌, cond, Bool, true, false, List, [], ◌∷◌, length, sym, subst, arith, Option, Some, None}
+use Rattle.std.specs.Prelude.{is_some, is_none, not, nat_le, nat_lt}
 use Rattle.std.specs.List.{list_all, list_any}
 use Rattle.std.specs.Option.{option_map, option_or}
 use Rattle.std.proofs.lemmas.Bool.{false≢true}
 use Rattle.cf_model.specs.FlatFunctions.{FlatFunction}
 use Rattle.cf_reference.specs.declared.grammar.Head.{Head}
 use Rattle.cf_reference.specs.Trees.{Tree, Num, At, Named, Call, Arguments, none, more, atom, Atom, Variable, Position, Number, Statement, Empty, Level, Vars, Let, Load, Value, First, Listed, Equal, Size, Stats}
-use Rattle.cf_reference.specs.Reasons.{Refusal, NoLevel, LevelAgain, NoName, Taken, TooManyVariables, LevelsDiffer, BadLevel, OutOfRange, Overflow, number, unless, where_holds}
-use Rattle.cf_reference.specs.States.{State, Files, named}
+use Rattle.cf_reference.specs.Reasons.{Refusal, NoLevel, LevelAgain, NoName, Taken, TooManyVariables, LevelsDiffer, BadLevel, OutOfRange, Overflow, FileTooLarge, Circuit, Links, number, unless, where_holds}
+use Rattle.cf_reference.specs.States.{State, Files, level_in, is_among, is_bound, named}
 use Rattle.cf_reference.specs.Calls.{Meant, call_refusal}
 use Rattle.cf_reference.specs.Expressions.{walk, walks, walk_atom, meant}
 use Rattle.cf_reference.specs.Failures.{over}
-use Rattle.cf_reference.specs.Carrying.{Outcome, Refuses, Goes, unless_refused, with_function, needs_level, asks, set_level, declare, define, tell_value, tell_first, tell_list, tell_equal, tell_size, tell_stats, step}
+use Rattle.cf_reference.specs.Carrying.{Outcome, Refuses, Goes, unless_refused, with_function, needs_level, asks, set_level, declare, define, tell_value, tell_first, tell_list, tell_equal, tell_size, tell_stats, load_bytes, step}
+use Rattle.cf_reference.specs.Loading.{file_limit, with_input, input_refusal, inputs_refusal}
+use Rattle.cf_circuits.specs.declared.faults.LinkFault.{LinkFault}
+use Rattle.cf_circuits.specs.Causes.{Fault, fault}
+use Rattle.cf_circuits.specs.LinkFaults.{link}
+use Rattle.cf_circuits.specs.Netlists.{net}
+use Rattle.cf_circuits.specs.Roots.{inputs_of}
+use Rattle.std.proofs.lemmas.Bool.Decides.{nat_tests}
 use Rattle.cf_reference.proofs.ExpressionLaws.{walk-Num, walk-At, walk-Named, walk-Call, walks-none, walks-more, walks-atom}
 use Rattle.cf_session.specs.Stepping.{reads_file}
 
@@ -110,3 +117,69 @@ step_plain files s Stats h = refused_plain _ _ (level_plain s, tt) tt
 pub plain-step : (files : Files) (s : State) (t : Statement) (r : Refusal) → reads_file t ≡ false
     → step files s t ≡ Refuses r → number r ≤ 14
 plain-step files s t r h e = subst GoesPlain e (step_plain files s t h)
+
+-- A file's bytes that are few enough aren't refused for the file.
+abbrev pub SparesFile : Refusal → Type 0
+SparesFile r = (number r ≡ 15 → ⊥) × (number r ≡ 16 → ⊥)
+
+abbrev IsSpared : Option Refusal → Type 0
+IsSpared None = Unit {0}
+IsSpared (Some r) = SparesFile r
+
+abbrev AreSpared : List (Option Refusal) → Type 0
+AreSpared [] = Unit {0}
+AreSpared (o ∷ os) = IsSpared o × AreSpared os
+
+abbrev GoesSpared : Outcome → Type 0
+GoesSpared (Refuses r) = SparesFile r
+GoesSpared (Goes s reply) = Unit {0}
+
+refused_spared : (os : List (Option Refusal)) (outcome : Outcome) → AreSpared os → GoesSpared outcome
+    → GoesSpared (unless_refused os outcome)
+refused_spared [] outcome p q = q
+refused_spared (None ∷ os) outcome p q = refused_spared os outcome p.1 q
+refused_spared (Some r ∷ os) outcome p q = p.0
+
+few_spared : (r : Refusal) → number r ≤ 14 → SparesFile r
+few_spared r h = (λ e. absurd (omega (arith, h, e)), λ e. absurd (omega (arith, h, e)))
+
+plain_spared : (o : Option Refusal) → IsPlain o → IsSpared o
+plain_spared None h = tt
+plain_spared (Some r) h = few_spared r h
+
+input_plain : (s : State) (name : List ℕ) → IsPlain (input_refusal s name)
+input_plain s name = by (is_among s.variables name)
+  where
+    by : (t : Bool)
+        → IsPlain (cond t None (option_or (where_holds (is_bound s name) Taken) (where_holds (nat_le (2 ^ level_in s) (length s.variables)) TooManyVariables)))
+    by true = tt
+    by false = or_plain _ _ (holds_plain _ Taken (omega arith)) (holds_plain _ TooManyVariables (omega arith))
+
+inputs_plain : (names : List (List ℕ)) (s : State) → IsPlain (inputs_refusal s names)
+inputs_plain [] s = tt
+inputs_plain (name ∷ later) s = or_plain _ _ (input_plain s name) (inputs_plain later (with_input s name))
+
+text_spared : (o : Option Fault) → IsSpared (option_map Circuit o)
+text_spared None = tt
+text_spared (Some f) = (λ e. absurd (omega (arith, e)), λ e. absurd (omega (arith, e)))
+
+links_spared : (o : Option LinkFault) → IsSpared (option_map Links o)
+links_spared None = tt
+links_spared (Some f) = (λ e. absurd (omega (arith, e)), λ e. absurd (omega (arith, e)))
+
+few_bytes : (m n : ℕ) → n ≤ m → nat_lt m n ≡ false
+few_bytes m n h = grind (arith, nat_tests)
+
+large_spared : (b : Bool) → b ≡ false → IsSpared (where_holds b FileTooLarge)
+large_spared false e = tt
+large_spared true e = absurd (false≢true (sym e))
+
+bytes_spared : (s : State) (prefix bytes : List ℕ) → length bytes ≤ file_limit → GoesSpared (load_bytes s prefix bytes)
+bytes_spared s prefix bytes short =
+    refused_spared _ _
+    (large_spared (nat_lt file_limit (length bytes)) (few_bytes file_limit (length bytes) short), text_spared (fault bytes), links_spared (link (net bytes)), plain_spared _ (inputs_plain (inputs_of (net bytes)) s), plain_spared _ (holds_plain _ Taken (omega arith)), tt)
+    tt
+
+pub short-bytes : (s : State) (prefix bytes : List ℕ) (r : Refusal) → length bytes ≤ file_limit
+    → load_bytes s prefix bytes ≡ Refuses r → SparesFile r
+short-bytes s prefix bytes r short e = subst GoesSpared e (bytes_spared s prefix bytes short)

@@ -1,5 +1,5 @@
 -- The inputs of a circuit as variables.
-use Rattle.std.proofs.Common.{ℕ, suc, ◌≡◌, ◌≤◌, ◌<◌, ◌+◌, ◌^◌, Bool, true, false, cond, ◌||◌, List, [], ◌∷◌, ◌++◌, drop, map, length, get_or, refl, sym, ◌∙◌, ap, arith, subst, Option, Some, None, drop-cons, add-one}
+use Rattle.std.proofs.Common.{ℕ, zero, suc, ◌≡◌, ◌≤◌, ◌<◌, ◌+◌, ◌^◌, Bool, true, false, cond, ◌||◌, List, [], ◌∷◌, ◌++◌, drop, map, length, get_or, refl, sym, ◌∙◌, ap, arith, subst, Option, Some, None, drop-cons, add-one}
 use Rattle.std.specs.Prelude.{All, is_some, nat_le}
 use Rattle.std.specs.List.{list_any}
 use Rattle.std.specs.Option.{option_map, option_or}
@@ -20,8 +20,12 @@ use Rattle.cf_reference.proofs.NameLaws.{differ-vars}
 use Rattle.cf_session.specs.Sessions.{Names, names_of, state_of}
 use Rattle.cf_session.specs.Bindings.{place_in, bind}
 use Rattle.cf_session.specs.Statements.{ArePositions}
-use Rattle.cf_session.specs.Loads.{state_by}
-use Rattle.cf_session.proofs.NameFacts.{flipped}
+use Rattle.cf_session.specs.declared.faults.StepFault.{StepFault}
+use Rattle.cf_session.specs.declared.faults.StepFault.TheVariants.{NoMemory, Refused}
+use Rattle.cf_session.specs.Faults.{reason_of}
+use Rattle.cf_session.specs.Loads.{state_by, IsFaultOfNames}
+use Rattle.cf_pkg.proofs.Valued.{Keeps-same}
+use Rattle.cf_session.proofs.NameFacts.{flipped, found, place-within}
 use Rattle.cf_session.proofs.StatementFacts.{bind-new, names_push, positions_push}
 
 -- whether a name is bound, by its look-up
@@ -212,11 +216,12 @@ or_right false b e = e
 
 among_append : (xs ys : List (List ℕ)) (name : List ℕ) → is_among xs name ≡ true → is_among (xs ++ ys) name ≡ true
 among_append [] ys name e = absurd (false≢true e)
-among_append (x ∷ xs) ys name e = by (bytes_eq x name) e
+among_append (x ∷ xs) ys name e = by (bytes_eq x name) e (among_append xs ys name)
   where
-    by : (t : Bool) → t || is_among xs name ≡ true → t || is_among (xs ++ ys) name ≡ true
-    by true h = refl
-    by false h = among_append xs ys name h
+    by : (t : Bool) → t || is_among xs name ≡ true → (is_among xs name ≡ true → is_among (xs ++ ys) name ≡ true)
+        → t || is_among (xs ++ ys) name ≡ true
+    by true h later = refl
+    by false h later = later h
 
 among_last : (xs : List (List ℕ)) (name : List ℕ) → is_among (xs ++ name ∷ []) name ≡ true
 among_last [] name = ap (λ t. t || false) (same name)
@@ -249,3 +254,34 @@ inputs-there s [] = All-nil _
 inputs-there s (name ∷ later) =
     All-cons (λ n. is_among (with_inputs (with_input s name) later).variables n ≡ true) name later
     (stays (with_input s name) later name (here s name)) (inputs-there (with_input s name) later)
+
+-- before the first input
+pub inputs-none : (p : Package) (l : ℕ) (vs fs now : Names) (all : List (List ℕ)) → now ≡ vs → ArePositions p l vs
+    → HaveInputs p p l vs fs now all all
+inputs-none p l vs fs now all is h =
+    subst (λ bound. HaveInputs p p l vs fs bound all all) (sym is)
+    (record { refusal = refl; names = refl; positions = h; kept = Keeps-same p })
+
+-- the next one
+pub inputs-at : (p q : Package) (l : ℕ) (vs fs now : Names) (all : List (List ℕ)) (i : ℕ) (name : List ℕ)
+    → HaveInputs p q l vs fs now all (drop i all) → i < length all → name ≡ get_or all i name
+    → HaveInputs p q l vs fs now all (name ∷ drop (i + 1) all)
+inputs-at p q l vs fs now all i name h inside is =
+    rw add-one
+    (subst (HaveInputs p q l vs fs now all) (drop-cons all i name inside ∙ ap (λ (n : List ℕ). n ∷ drop (suc i) all) (sym is)) h)
+
+pub inputs-fault-at : (p q : Package) (l : ℕ) (vs fs now : Names) (all rest : List (List ℕ)) (name : List ℕ) (e : StepFault)
+    → HaveInputs p q l vs fs now all (name ∷ rest) → IsFaultOfNames (input_refusal (state_by q l now fs) name) e
+    → IsFaultOfNames (inputs_refusal (state_by p l vs fs) all) e
+inputs-fault-at p q l vs fs now all rest name NoMemory h f = tt
+inputs-fault-at p q l vs fs now all rest name (Refused r) h f =
+    inputs-refused p q l vs fs now all rest name (reason_of r) h f
+
+-- whether a position is one of few
+pub place-below : (bound : Names) (name : List ℕ) (n : ℕ) → Some n ≡ place_in bound name → n < length bound
+place-below bound name n e =
+    let there = found (names_of bound) name n e in
+    let inside = place-within (names_of bound) name there.0 in
+    let many = count bound in
+    omega (arith, inside, there.1, many)
+

@@ -27,10 +27,16 @@ use Rattle.cf_reference.specs.Carrying.{Refuses, Goes, load_bytes, load_circuit}
 use Rattle.cf_reference.proofs.LoadLaws.{load-no-file, load-content, load-too-large, load-Circuit, load-Links, load-inputs, load-outputs, load-goes}
 use Rattle.cf_io.specs.Shown.{FilesView}
 use Rattle.std.proofs.lemmas.Bool.{false≢true}
+use Rattle.std.proofs.Math.Pow.{pow_mono}
+use Rattle.std.proofs.lemmas.List.Elements.{All-cons, All-head, All-tail, All-nil}
+use Rattle.cf_session.proofs.NameFacts.{place-within}
 use Rattle.cf_session.specs.Contents.{IsUnread, ShowsWhy}
 use Rattle.cf_session.specs.declared.files.Unread.{Unread}
 use Rattle.cf_session.specs.declared.files.Unread.TheVariants as unread
-use Rattle.cf_session.specs.declared.faults.Refusal.TheVariants.{Circuit, Links}
+use Rattle.cf_session.specs.declared.faults.Refusal.TheVariants.{NoLevel, LevelAgain, NoName, Taken as TakenName, TooManyVars, LevelsDiffer, BadLevel, OutOfRange, Overflow, NoFile, FileTooLarge, Circuit, Links}
+use Rattle.cf_session.specs.declared.load.LoadFault.TheVariants as load
+use Rattle.cf_reference.specs.Reasons as reason
+use Rattle.cf_session.proofs.FewReasons.{short-bytes}
 use Rattle.cf_session.specs.declared.faults.StepFault.{StepFault}
 use Rattle.cf_session.specs.declared.faults.StepFault.TheVariants.{NoMemory, Refused}
 use Rattle.cf_session.specs.Faults.{reason_of}
@@ -70,7 +76,7 @@ pub record Declares (h : Held) (l : ℕ) (flat : Flat) (vs : Names) (p : Package
   pub kept : Keeps h.pkg p
 
 -- the state with them
-with_names : Held → ℕ → Names → State
+abbrev with_names : Held → ℕ → Names → State
 with_names h l vs = record { level = Some l; variables = names_of vs; functions = (state_of h).functions }
 
 at_level : (h : Held) (l : ℕ) → h.level ≡ Some l → state_of h ≡ state_by h.pkg l h.variables h.functions
@@ -78,7 +84,6 @@ at_level h l set = ap (λ (o : Option ℕ). record (state_of h) { level = o }) s
 
 inputs_are : (h : Held) (l : ℕ) (flat : Flat) (vs : Names) (p : Package) → Declares h l flat vs p
     → with_inputs (state_of h) flat.inputs ≡ with_names h l vs
-unfolding with_names
 inputs_are h l flat vs p d =
     ap (λ s. with_inputs s flat.inputs) (at_level h l d.set)
     ∙ inputs-only (state_by h.pkg l h.variables h.functions) flat.inputs
@@ -106,7 +111,6 @@ clash_is h l flat vs p prefix bytes d is =
 pub outputs-taken : (h : Held) (l : ℕ) (flat : Flat) (vs : Names) (p : Package) (prefix bytes : List ℕ) → Declares h l flat vs p
     → outputs_clash (record { level = None; variables = names_of vs; functions = [] }) prefix (names_out flat.outputs) ≡ true
     → IsCircuitOf bytes flat → length bytes ≤ file_limit → load_bytes (state_of h) prefix bytes ≡ Refuses Taken
-unfolding with_names
 outputs-taken h l flat vs p prefix bytes d clash is short =
     load-outputs (state_of h) prefix bytes short is.text is.links (none_of h l flat vs p bytes d is)
     (clash_is h l flat vs p prefix bytes d is ∙ clash)
@@ -137,7 +141,7 @@ some_of [] i x e = absurd (none-some x e)
 some_of (y ∷ xs) i x e = omega arith
 
 -- the session with the circuit
-pub loaded : Held → Package → Names → List ℕ → Flat → List Func → Held
+abbrev pub loaded : Held → Package → Names → List ℕ → Flat → List Func → Held
 loaded h q vs prefix flat fs =
     record { pkg = q; level = h.level; variables = vs; functions = bind_outputs h.functions prefix (names_out flat.outputs) fs }
 
@@ -146,7 +150,6 @@ means_each : (h : Held) (l : ℕ) (flat : Flat) (vs : Names) (p q : Package) (pr
     → HasBuilt h l flat vs p q prefix positions fs → IsCircuitOf bytes flat
     → (i : ℕ) (f : Func) (name : List ℕ) → slice_get fs i ≡ Some f → slice_get (names_out flat.outputs) i ≡ Some name
     → meaning q f ≡ output_function (with_names h l vs) (net bytes) name
-unfolding with_names
 means_each h l flat vs p q prefix positions bytes fs b is i f name there named =
     let out = output_at flat.outputs i name named in
     output-means q (with_names h l vs) (net bytes) flat positions fs (b.good (some_of fs i f there)) is.inputs is.values (b.placed ∙ ap (map (place bytes_eq (names_of vs))) is.inputs) b.functions i f out.0 there out.1
@@ -156,7 +159,6 @@ means_each h l flat vs p q prefix positions bytes fs b is i f name there named =
 loaded_state : (h : Held) (l : ℕ) (flat : Flat) (vs : Names) (p q : Package) (prefix positions bytes : List ℕ) (fs : List Func)
     → IsHeld h → HasBuilt h l flat vs p q prefix positions fs → IsCircuitOf bytes flat
     → with_circuit (state_of h) prefix (net bytes) ≡ state_of (loaded h q vs prefix flat fs)
-unfolding loaded with_names
 loaded_state h l flat vs p q prefix positions bytes fs holds b is =
     let models = net bytes in
     let s = with_names h l vs in
@@ -170,7 +172,6 @@ loaded_state h l flat vs p q prefix positions bytes fs holds b is =
 no_clash : (h : Held) (l : ℕ) (flat : Flat) (vs : Names) (p q : Package) (prefix positions bytes : List ℕ) (fs : List Func)
     → HasBuilt h l flat vs p q prefix positions fs → IsCircuitOf bytes flat
     → outputs_clash (declared_for (state_of h) (net bytes)) prefix (outputs_of (net bytes)) ≡ false
-unfolding with_names
 no_clash h l flat vs p q prefix positions bytes fs b is = clash_is h l flat vs p prefix bytes b.declares is ∙ b.clash
 
 pub load-done : (h : Held) (l : ℕ) (flat : Flat) (vs : Names) (p q : Package) (prefix positions bytes : List ℕ) (fs : List Func)
@@ -197,7 +198,6 @@ inputs_hold h l flat vs p holds d =
 -- how many variables there are then
 pub few-variables : (h : Held) (l : ℕ) (flat : Flat) (vs : Names) (p : Package) → IsHeld h → Declares h l flat vs p
     → length vs ≤ 2 ^ l
-unfolding with_names
 few-variables h l flat vs p holds d =
     let n = count_names vs in
     let room = (inputs_hold h l flat vs p holds d).room in
@@ -213,7 +213,6 @@ inputs-among h l flat vs p d =
 pub load-held : (h : Held) (l : ℕ) (flat : Flat) (vs : Names) (p q : Package) (prefix positions bytes : List ℕ) (fs : List Func)
     → IsHeld h → HasBuilt h l flat vs p q prefix positions fs → IsCircuitOf bytes flat
     → IsHeld (loaded h q vs prefix flat fs)
-unfolding loaded with_names
 load-held h l flat vs p q prefix positions bytes fs holds b is =
     let k = Keeps-trans h.pkg p q b.declares.kept b.kept in
     let set = b.declares.set in
@@ -275,3 +274,72 @@ pub load-stopped : (entries : Files) (h : Held) (prefix file bytes : List ℕ) (
     → IsFaultOfStep (load_circuit entries (state_of h) prefix file) e
 load-stopped entries h prefix file bytes e set content f =
     subst (λ outcome. IsFaultOfStep outcome e) (sym (load-read entries h prefix file bytes set content)) f
+
+-- a level that is set
+level_is : (o : Option ℕ) (l : ℕ) → IsSome o → l ≡ unwrap_or o 0 → o ≡ Some l
+level_is None l set e = absurd (false≢true set)
+level_is (Some k) l set e = ap Some (sym e)
+
+-- a circuit's inputs, of a session that is seen from its parts
+pub declares : (h s : Held) (l : ℕ) (flat : Flat) (vs now : Names) (p : Package) (inputs : List (List ℕ)) → h ≡ s → IsSome s.level
+    → l ≡ level_in (state_of s) → inputs ≡ flat.inputs → vs ≡ now
+    → inputs_refusal (state_by h.pkg l h.variables h.functions) inputs ≡ None
+    → names_of vs ≡ (with_inputs (state_by h.pkg l h.variables h.functions) inputs).variables → ArePositions p l vs
+    → Keeps h.pkg p → Declares h l flat now p
+declares h s l flat vs now p inputs same set level is view none names positions kept = record {
+  set = level_is h.level l (subst (λ (t : Held). IsSome t.level) (sym same) set) (level ∙ ap (λ t. level_in (state_of t)) (sym same));
+  none = ap (inputs_refusal (state_by h.pkg l h.variables h.functions)) (sym is) ∙ none;
+  names =
+      ap names_of (sym view) ∙ names
+      ∙ ap (λ ns. (with_inputs (state_by h.pkg l h.variables h.functions) ns).variables) is;
+  positions = subst (ArePositions p l) view positions;
+  kept = kept;
+}
+
+pub few-positions : (h : Held) (l : ℕ) (flat : Flat) (vs : Names) (p : Package) → IsHeld h → Declares h l flat vs p → l ≤ 7
+    → length vs ≤ 128
+few-positions h l flat vs p holds d low =
+    let room = few-variables h l flat vs p holds d in
+    let most = pow_mono {i = l} {j = 7} low in
+    omega (arith, room, most)
+
+all_within : (vs : Names) (l : ℕ) (names : List (List ℕ)) → length vs ≤ 2 ^ l
+    → All (λ name. is_among (names_of vs) name ≡ true) names
+    → All (λ i. i < 2 ^ l) (map (place bytes_eq (names_of vs)) names)
+all_within vs l [] room all = All-nil _
+all_within vs l (name ∷ names) room all =
+    let inside = place-within (names_of vs) name (All-head (λ n. is_among (names_of vs) n ≡ true) name names all) in
+    let many = count_names vs in
+    All-cons (λ i. i < 2 ^ l) (place bytes_eq (names_of vs) name) (map (place bytes_eq (names_of vs)) names) (omega (arith, inside, many, room))
+    (all_within vs l names room (All-tail (λ n. is_among (names_of vs) n ≡ true) name names all))
+
+pub positions-within : (h : Held) (l : ℕ) (flat : Flat) (vs : Names) (p : Package) (positions : List ℕ) → IsHeld h
+    → Declares h l flat vs p → positions ≡ map (place bytes_eq (names_of vs)) flat.inputs
+    → All (λ i. i < 2 ^ l) positions
+positions-within h l flat vs p positions holds d is =
+    subst (λ ps. All (λ i. i < 2 ^ l) ps) (sym is)
+    (all_within vs l flat.inputs (few-variables h l flat vs p holds d) (inputs-among h l flat vs p d))
+
+-- where bytes that are few enough are refused, the files have nothing to show
+pub step-shows : (old new : FilesView) (s : State) (prefix bytes : List ℕ) (e : StepFault) → length bytes ≤ file_limit
+    → IsFaultOfStep (load_bytes s prefix bytes) e → ShowsFault old new (load.Step e)
+step-shows old new s prefix bytes NoMemory short f = tt
+step-shows old new s prefix bytes (Refused NoLevel) short f = tt
+step-shows old new s prefix bytes (Refused LevelAgain) short f = tt
+step-shows old new s prefix bytes (Refused NoName) short f = tt
+step-shows old new s prefix bytes (Refused TakenName) short f = tt
+step-shows old new s prefix bytes (Refused TooManyVars) short f = tt
+step-shows old new s prefix bytes (Refused LevelsDiffer) short f = tt
+step-shows old new s prefix bytes (Refused BadLevel) short f = tt
+step-shows old new s prefix bytes (Refused OutOfRange) short f = tt
+step-shows old new s prefix bytes (Refused (Overflow at)) short f = tt
+step-shows old new s prefix bytes (Refused NoFile) short f = absurd ((short-bytes s prefix bytes reason.NoFile short f).0 refl)
+step-shows old new s prefix bytes (Refused FileTooLarge) short f =
+    absurd ((short-bytes s prefix bytes reason.FileTooLarge short f).1 refl)
+step-shows old new s prefix bytes (Refused (Circuit line why)) short f = tt
+step-shows old new s prefix bytes (Refused (Links fault)) short f = tt
+
+pub text-shows : (old new : FilesView) (s : State) (prefix bytes : List ℕ) (e : StepFault) → length bytes ≤ file_limit
+    → IsFaultOfText bytes e → ShowsFault old new (load.Step e)
+text-shows old new s prefix bytes NoMemory short f = tt
+text-shows old new s prefix bytes (Refused r) short f = step-shows old new s prefix bytes (Refused r) short (f s prefix short)

@@ -143,3 +143,17 @@ outputs-differ s prefix function (output ∷ later) differ free =
     outputs-differ (record s { functions = states.bind s.functions whole (function output) }) prefix function later
     (differ-let s whole (function output) differ (or_first (is_among s.variables whole) (outputs_clash s prefix later) free))
     (or_second (is_among s.variables whole) (outputs_clash s prefix later) free)
+
+-- Whether a test holds of some name comes to whether it does of one that is left.
+abbrev pub ComesTo : (List ℕ → Bool) → List Out → List Out → Type 0
+ComesTo test all left = list_any test (names_out all) ≡ list_any test (names_out left)
+
+-- Some names are bound, and the others are left.
+abbrev pub HasBound : Names → Names → List ℕ → List Out → List Func → ℕ → Type 0
+HasBound before now prefix outputs built i =
+    bind_outputs before prefix (names_out outputs) built
+    ≡ bind_outputs now prefix (names_out (drop i outputs)) (drop i built)
+
+-- Some positions are noted, and the others are left.
+abbrev pub HasPlaced : (List ℕ → ℕ) → List (List ℕ) → List ℕ → ℕ → Type 0
+HasPlaced at names placed i = map at names ≡ placed ++ map at (drop i names)

@@ -227,9 +227,9 @@ fn with_outputs(
 {
     let mut bound = functions.copy()?;
     let mut name = Vec::new(alloc);
-    for (output, f) in outputs.iter().zip(built) {
+    for (place, output) in outputs.iter().enumerate() {
         set_output_name(&mut name, prefix, output.name.bytes())?;
-        bound.bind(name.as_slice(), *f)?;
+        bound.bind(name.as_slice(), built[place])?;
     }
     Ok(bound)
 }
