@@ -137,7 +137,12 @@ fn carry_line<F: Files, K: Sink>(
 {
     match parse_line(alloc, line) {
         Ok(statement) => carry_statement(session, number, &statement, files, text, out),
-        Err(ScriptFault::Malformed) => Carried::Stops(refuse(&Reason::Malformed, number, text, out)),
+        Err(ScriptFault::Malformed) => Carried::Stops(refuse(
+            &Reason::Malformed,
+            number,
+            text,
+            out,
+        )),
         Err(ScriptFault::WideNumber) => Carried::Stops(refuse(
             &Reason::WideNumber,
             number,
