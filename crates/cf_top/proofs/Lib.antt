@@ -1,3 +1,4 @@
 pub mod Following
 pub mod Turns
 pub mod Carried
+pub mod Refused

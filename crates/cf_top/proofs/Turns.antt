@@ -40,7 +40,8 @@ stops_here files whole s s' n handed from upto before now after old line more ou
     line_fails files whole s n handed before now after old line more outcome follows e carries stops
 stops_here files whole s s' n handed from upto before now after old line more outcome status.NoMemory follows e carries stops read =
     subst (λ w. AppendsFront before w whole.text) (sym stops.1) (cut_off whole (run_lines files s n handed (lines old)) before now follows)
-stops_here files whole s s' n handed from upto before now after old line more outcome status.FileFault follows e carries stops read = absurd stops
+stops_here files whole s s' n handed from upto before now after old line more outcome status.FileFault follows e carries stops read =
+    subst (λ w. AppendsFront before w whole.text) (sym stops.1) (cut_off whole (run_lines files s n handed (lines old)) before now follows)
 
 -- a line that is not too long stops the run
 pub line_stops : (files : Files) (whole : Ending) (s s' : State) (n from upto : ℕ) (held kept : Held) (before now after old new line : List ℕ) (newline : Bool) (how : Status)

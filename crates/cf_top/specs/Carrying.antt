@@ -13,15 +13,14 @@ pub record Writes (outcome : Outcome) (n : ℕ) (old : State) (before : List ℕ
   pub state : new ≡ state_of old outcome
   pub text : after ≡ before ++ text_of n outcome
 
--- a line ends the run only by its refusal, a fault of writing or want of memory
+-- A line ends the run only by its refusal, a fault of writing or of a file, or want of memory. The last two leave the state and
+-- what was written as they were before the line.
 abbrev pub StopsAt : Outcome → ℕ → State → List ℕ → State → List ℕ → Status → Type 0
 StopsAt outcome n old before new after status.Refused = (refuses outcome ≡ true) × Writes outcome n old before new after
 StopsAt outcome n old before new after status.WriteFault = AppendsFront before after (text_of n outcome)
 StopsAt outcome n old before new after status.NoMemory = (new ≡ old) × (after ≡ before)
-StopsAt outcome n old before new after status.Done = ⊥
-StopsAt outcome n old before new after status.Usage = ⊥
-StopsAt outcome n old before new after status.ReadFault = ⊥
-StopsAt outcome n old before new after status.FileFault = ⊥
+StopsAt outcome n old before new after status.FileFault = (new ≡ old) × (after ≡ before)
+StopsAt outcome n old before new after other = ⊥
 
 abbrev pub Carries : Outcome → ℕ → State → List ℕ → State → List ℕ → Carried → Type 0
 Carries outcome n old before new after carried.Goes = (refuses outcome ≡ false) × Writes outcome n old before new after
@@ -29,21 +28,13 @@ Carries outcome n old before new after (carried.Stops answer) = StopsAt outcome 
 
 -- what a refusal comes to, whether the sink tells its bytes or not
 abbrev pub EndsRefusal : Status → Type 0
-EndsRefusal status.Done = ⊥
 EndsRefusal status.Refused = Unit {0}
-EndsRefusal status.Usage = ⊥
-EndsRefusal status.ReadFault = ⊥
 EndsRefusal status.WriteFault = Unit {0}
-EndsRefusal status.NoMemory = ⊥
-EndsRefusal status.FileFault = ⊥
+EndsRefusal other = ⊥
 
 -- the answers with which a line can stop a run
 abbrev pub EndsLine : Carried → Type 0
-EndsLine carried.Goes = Unit {0}
 EndsLine (carried.Stops status.Done) = ⊥
-EndsLine (carried.Stops status.Refused) = Unit {0}
 EndsLine (carried.Stops status.Usage) = ⊥
 EndsLine (carried.Stops status.ReadFault) = ⊥
-EndsLine (carried.Stops status.WriteFault) = Unit {0}
-EndsLine (carried.Stops status.NoMemory) = Unit {0}
-EndsLine (carried.Stops status.FileFault) = ⊥
+EndsLine other = Unit {0}

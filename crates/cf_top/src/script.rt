@@ -2,17 +2,19 @@
 
 ghost use Rattle.std.specs.Prelude.{◌≡◌, ◌≢◌, ℕ, ◌+◌, ◌≤◌, List, [], ◌∷◌, ◌++◌, IsTrue, true, false};
 ghost use Rattle.cf_io.specs.Causes.{Rose};
-ghost use Rattle.cf_io.specs.Shown.{ReadingIsTold, WritingIsTold};
+ghost use Rattle.cf_io.specs.Shown.{ReadingIsTold, FilesAreTold, WritingIsTold};
 ghost use Rattle.cf_reference.specs.Trees.{Formed};
 ghost use Rattle.cf_reference.specs.Lines.{lines as lines_of};
 ghost use Rattle.cf_reference.specs.Parsing.{parse};
 ghost use Rattle.cf_reference.specs.States.{State};
 ghost use Rattle.cf_reference.specs.Carrying.{Refuses, step};
-ghost use Rattle.cf_reference.specs.Scripts.{step_parsed, run_lines};
+ghost use Rattle.cf_reference.specs.Scripts.{step_parsed, run_lines, text_of};
 ghost use Rattle.cf_script.specs.Views.{statement_of};
 ghost use Rattle.cf_pkg.specs.Packages.{Keeps};
 ghost use Rattle.cf_session.specs.Sessions.{state_of};
-ghost use Rattle.cf_top.specs.Views.{reason_view};
+ghost use Rattle.cf_session.specs.Contents.{KeepsFiles};
+ghost use Rattle.cf_session.specs.Stepping.{Puts};
+ghost use Rattle.cf_top.specs.Views.{reason_view, last_name, line_of_name};
 ghost use Rattle.cf_top.specs.Ends.{Meets};
 ghost use Rattle.cf_top.specs.Carrying.{Carries, StopsAt, EndsLine, EndsRefusal};
 
@@ -39,7 +41,8 @@ pub(crate) fn run_script<S: Source, F: Files, K: Sink>(
     files: &mut F,
     out: &mut K,
 ) -> Status
-    ensures run { ReadingIsTold (S.shown script.old) → WritingIsTold (K.shown out.old) →
+    ensures run { ReadingIsTold (S.shown script.old) → FilesAreTold (F.shown files.old) →
+        WritingIsTold (K.shown out.old) →
         Meets (run_lines (F.shown files.old).entries (state_of session.old) 1 0 (lines_of (S.shown script.old).left))
         (K.shown out.old).written (K.shown out.new).written
         (S.shown script.old).taken (S.shown script.new).taken (state_of session.new) result }
@@ -52,8 +55,8 @@ pub(crate) fn run_script<S: Source, F: Files, K: Sink>(
         × ((K.shown out.old).faults ≤ (K.shown out.new).faults) }
     ensures read { result ≡ Status.ReadFault → Rose (S.shown script.old).faults (S.shown script.new).faults }
     ensures write { result ≡ Status.WriteFault → Rose (K.shown out.old).faults (K.shown out.new).faults }
-    ensures file { result ≢ Status.FileFault }
-    ensures files { files.new ≡ files.old }
+    ensures file { result ≡ Status.FileFault → Rose (F.shown files.old).faults (F.shown files.new).faults }
+    ensures files { KeepsFiles (F.shown files.old) (F.shown files.new) }
     ensures kept { Keeps session.old.pkg session.new.pkg }
 {
     let Ok(mut lines) = Lines::new(alloc) else {
@@ -72,7 +75,8 @@ fn run_lines<S: Source, F: Files, K: Sink>(
     out: &mut K,
 ) -> Status
     requires { lines.old ≡ record { bytes = []; handed = 0; ended = false } }
-    ensures run { ReadingIsTold (S.shown script.old) → WritingIsTold (K.shown out.old) →
+    ensures run { ReadingIsTold (S.shown script.old) → FilesAreTold (F.shown files.old) →
+        WritingIsTold (K.shown out.old) →
         Meets (run_lines (F.shown files.old).entries (state_of session.old) 1 0 (lines_of (S.shown script.old).left))
         (K.shown out.old).written (K.shown out.new).written
         (S.shown script.old).taken (S.shown script.new).taken (state_of session.new) result }
@@ -85,8 +89,8 @@ fn run_lines<S: Source, F: Files, K: Sink>(
         × ((K.shown out.old).faults ≤ (K.shown out.new).faults) }
     ensures read { result ≡ Status.ReadFault → Rose (S.shown script.old).faults (S.shown script.new).faults }
     ensures write { result ≡ Status.WriteFault → Rose (K.shown out.old).faults (K.shown out.new).faults }
-    ensures file { result ≢ Status.FileFault }
-    ensures files { files.new ≡ files.old }
+    ensures file { result ≡ Status.FileFault → Rose (F.shown files.old).faults (F.shown files.new).faults }
+    ensures files { KeepsFiles (F.shown files.old) (F.shown files.new) }
     ensures kept { Keeps session.old.pkg session.new.pkg }
 {
     let mut text = Text::new();
@@ -102,8 +106,8 @@ fn run_lines<S: Source, F: Files, K: Sink>(
                 }
             }
             Next::End => return Status::Done,
-            Next::TooLong => return refuse(Reason::LineTooLong, number, &mut text, out),
-            Next::ScriptTooLong => return refuse(Reason::ScriptTooLong, number, &mut text, out),
+            Next::TooLong => return refuse(&Reason::LineTooLong, number, &mut text, out),
+            Next::ScriptTooLong => return refuse(&Reason::ScriptTooLong, number, &mut text, out),
             Next::ReadFault => return Status::ReadFault,
         }
     }
@@ -119,26 +123,33 @@ fn carry_line<F: Files, K: Sink>(
     text: &mut Text,
     out: &mut K,
 ) -> Carried
-    ensures carries { WritingIsTold (K.shown out.old) →
+    ensures carries { FilesAreTold (F.shown files.old) → WritingIsTold (K.shown out.old) →
         Carries (step_parsed (F.shown files.old).entries (state_of session.old) (parse line.now)) number
         (state_of session.old) (K.shown out.old).written (state_of session.new) (K.shown out.new).written result }
     ensures stops { EndsLine result }
     ensures told { (K.shown out.new).tells ≡ (K.shown out.old).tells }
     ensures later { (K.shown out.old).faults ≤ (K.shown out.new).faults }
     ensures write { result ≡ Carried.Stops Status.WriteFault → Rose (K.shown out.old).faults (K.shown out.new).faults }
-    ensures files { files.new ≡ files.old }
+    ensures file { result ≡ Carried.Stops Status.FileFault →
+        Rose (F.shown files.old).faults (F.shown files.new).faults }
+    ensures files { KeepsFiles (F.shown files.old) (F.shown files.new) }
     ensures kept { Keeps session.old.pkg session.new.pkg }
 {
     match parse_line(alloc, line) {
         Ok(statement) => carry_statement(session, number, &statement, files, text, out),
-        Err(ScriptFault::Malformed) => Carried::Stops(refuse(Reason::Malformed, number, text, out)),
-        Err(ScriptFault::WideNumber) => Carried::Stops(refuse(
-            Reason::WideNumber,
+        Err(ScriptFault::Malformed) => Carried::Stops(refuse(
+            &Reason::Malformed,
             number,
             text,
             out,
         )),
-        Err(ScriptFault::TooDeep) => Carried::Stops(refuse(Reason::TooDeep, number, text, out)),
+        Err(ScriptFault::WideNumber) => Carried::Stops(refuse(
+            &Reason::WideNumber,
+            number,
+            text,
+            out,
+        )),
+        Err(ScriptFault::TooDeep) => Carried::Stops(refuse(&Reason::TooDeep, number, text, out)),
         Err(ScriptFault::NoMemory) => Carried::Stops(Status::NoMemory),
     }
 }
@@ -153,20 +164,22 @@ fn carry_statement<F: Files, K: Sink>(
     out: &mut K,
 ) -> Carried
     requires { Formed (statement_of statement.now) }
-    ensures carries { WritingIsTold (K.shown out.old) →
+    ensures carries { FilesAreTold (F.shown files.old) → WritingIsTold (K.shown out.old) →
         Carries (step (F.shown files.old).entries (state_of session.old) (statement_of statement.now)) number
         (state_of session.old) (K.shown out.old).written (state_of session.new) (K.shown out.new).written result }
     ensures stops { EndsLine result }
     ensures told { (K.shown out.new).tells ≡ (K.shown out.old).tells }
     ensures later { (K.shown out.old).faults ≤ (K.shown out.new).faults }
     ensures write { result ≡ Carried.Stops Status.WriteFault → Rose (K.shown out.old).faults (K.shown out.new).faults }
-    ensures files { files.new ≡ files.old }
+    ensures file { result ≡ Carried.Stops Status.FileFault →
+        Rose (F.shown files.old).faults (F.shown files.new).faults }
+    ensures files { KeepsFiles (F.shown files.old) (F.shown files.new) }
     ensures kept { Keeps session.old.pkg session.new.pkg }
 {
     match session.step(files, statement, text, out) {
         Stepped::Written => Carried::Goes,
         Stepped::Refused(refusal) => {
-            Carried::Stops(refuse(Reason::Statement(refusal), number, text, out))
+            Carried::Stops(refuse(&Reason::Statement(refusal), number, text, out))
         }
         Stepped::WriteFault => Carried::Stops(Status::WriteFault),
         Stepped::FileFault => Carried::Stops(Status::FileFault),
@@ -175,18 +188,44 @@ fn carry_statement<F: Files, K: Sink>(
 }
 
 /// Writes the refusal of a line, which ends the run.
-fn refuse<K: Sink>(reason: Reason, number: u64, text: &mut Text, out: &mut K) -> Status
+fn refuse<K: Sink>(reason: &Reason, number: u64, text: &mut Text, out: &mut K) -> Status
     ensures refused { WritingIsTold (K.shown out.old) → (s : State) →
-        StopsAt (Refuses (reason_view reason)) number s (K.shown out.old).written s (K.shown out.new).written result }
+        StopsAt (Refuses (reason_view reason.now)) number s (K.shown out.old).written s (K.shown out.new).written result }
     ensures stops { EndsRefusal result }
     ensures told { (K.shown out.new).tells ≡ (K.shown out.old).tells }
     ensures later { (K.shown out.old).faults ≤ (K.shown out.new).faults }
     ensures write { result ≡ Status.WriteFault → Rose (K.shown out.old).faults (K.shown out.new).faults }
 {
-    refused_text(number, reason.number(), reason.detail(), text);
-    if put_all(out, text.bytes()) {
+    if put_refusal(out, reason, number, text) {
         Status::Refused
     } else {
         Status::WriteFault
     }
+}
+
+/// Writes the refusal of a line.
+fn put_refusal<K: Sink>(out: &mut K, reason: &Reason, number: u64, text: &mut Text) -> bool
+    ensures { Puts (K.shown out.old) (K.shown out.new)
+        (text_of number (Refuses (reason_view reason.now))) result }
+{
+    refused_text(number, reason.number(), reason.detail(), text);
+    put(out, text.bytes()) && put_name(out, reason)
+}
+
+/// Writes the name that ends a refusal, and its line with it, if there is one.
+fn put_name<K: Sink>(out: &mut K, reason: &Reason) -> bool
+    ensures { Puts (K.shown out.old) (K.shown out.new)
+        (line_of_name (last_name (reason_view reason.now))) result }
+{
+    match reason.name() {
+        Some(name) => put(out, name) && put(out, b"\n"),
+        None => true,
+    }
+}
+
+/// Writes some bytes.
+fn put<K: Sink>(out: &mut K, bytes: &[u8]) -> bool
+    ensures { Puts (K.shown out.old) (K.shown out.new) bytes.now result }
+{
+    put_all(out, bytes)
 }

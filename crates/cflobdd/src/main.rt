@@ -1,7 +1,8 @@
-//! The program: a script from standard input, replies to standard output, and an exit status.
+//! The program: a script from standard input, circuits from the files of the current folder, replies to standard output, and an
+//! exit status.
 #![tactic(auto)]
 
-use cf_io::{HostSink, HostSource, MemFiles};
+use cf_io::{HostFiles, HostSink, HostSource};
 use cf_session::Session;
 use cf_top::{Status, run};
 use std::env;
@@ -29,7 +30,7 @@ fn main(rt: HostRuntime) -> ExitCode {
         return ExitCode::from(Status::NoMemory.code());
     };
     let mut script = HostSource::new(rt.stdin());
-    let mut files = MemFiles::new(Vec::new(alloc), 1, Vec::new(alloc));
+    let mut files = HostFiles::new(&rt, alloc);
     let mut out = HostSink::new(rt.stdout());
     let status = run(
         alloc,
