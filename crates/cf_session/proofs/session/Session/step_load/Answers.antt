@@ -1,0 +1,6 @@
+use Rattle.cf_session.proofs.StepFacts.{load-lacks}
+use Rattle.cf_session.proofs.session.Session.step_load.Goals as goal
+
+pub returns-then-is_none-clause-does : goal.returns-then-is_none-clause-does
+returns-then-is_none-clause-does g c = λ told at.
+    load-lacks (g.F.Files.shown c.args.files.now).entries c.args.self.now c.args.prefix.now c.args.file.now at c.is_none.result c.is_none.ensures c.if-is_none.true
