@@ -3,5 +3,6 @@ pub mod BitLaws
 pub mod ExitSumLaws
 pub mod WeightLaws
 pub mod Entered
-pub mod PutLaws
 pub mod Weighing
+pub mod MergeLaws
+pub mod GatherLaws

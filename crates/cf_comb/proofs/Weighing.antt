@@ -14,10 +14,6 @@ use Rattle.cf_model.proofs.MatrixLaws.{int_sum-append, sum_bound}
 use Rattle.cf_comb.proofs.BitLaws.{sum_by-map}
 use Rattle.cf_comb.proofs.WeightLaws.{pair_value}
 
--- the pair whose numbers are 0, which never comes
-abbrev pub no_term : PairTerm
-no_term = ((0, 0), 0)
-
 pub at_least : (m n : ℕ) → (m < n → ⊥) → n ≤ m
 at_least m n h = elim (cases_lt m n) [ inl lt ↦ absurd (h lt) | inr ge ↦ ge ]
 

@@ -2,6 +2,7 @@
 #![tactic(auto)]
 
 pub mod laws;
+mod merging;
 mod terms;
 mod weights;
 
@@ -14,9 +15,10 @@ ghost use Rattle.cf_comb.specs.CombBooks.{sum_of, OwnsSum, Interns, PairsBelow, 
 use cf_build::Label;
 use cf_tuple::NoMemory;
 use indexmap::IndexSet;
+use merging::{gathered, merged};
 use std::alloc::Global;
 use std::marker::Model;
-use terms::{Term, put_all, relabelled_terms, scaled_terms};
+use terms::{Term, moved_terms, scaled_terms};
 use weights::weight_of;
 
 /// The id of a sum in a book.
@@ -123,8 +125,7 @@ impl CombBook {
         ensures kept { Lengthens self.old self.new }
         ensures no_memory { OnErr result (self.new ≡ self.old) }
     {
-        let mut sum = Vec::from_slice(self.alloc, self.get(a))?;
-        put_all(&mut sum, self.get(b))?;
+        let sum = merged(self.alloc, self.get(a), self.get(b))?;
         self.intern(sum)
     }
 
@@ -151,9 +152,8 @@ impl CombBook {
         ensures kept { Lengthens self.old self.new }
         ensures no_memory { OnErr result (self.new ≡ self.old) }
     {
-        let mut sum = Vec::new(self.alloc);
-        let moved = relabelled_terms(self.alloc, ps, qs, self.get(a))?;
-        put_all(&mut sum, moved.as_slice())?;
+        let moved = moved_terms(self.alloc, ps, qs, self.get(a))?;
+        let sum = gathered(self.alloc, moved.as_slice())?;
         self.intern(sum)
     }
 

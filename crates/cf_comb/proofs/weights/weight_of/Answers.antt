@@ -3,7 +3,8 @@ use Rattle.std.specs.Prelude.{unsigned_abs}
 use mir.Syntax.{w128}
 use mir.Val.{SFits}
 use Rattle.std.proofs.lemmas.Int.{to_z-of_z}
-use Rattle.cf_comb.proofs.Weighing.{no_term, at_least, term_value, value, size_more, size_within, value_more, value_bound, weight_none, held, term_read, sum_fits}
+use Rattle.cf_comb.specs.Merges.{no_term}
+use Rattle.cf_comb.proofs.Weighing.{at_least, term_value, value, size_more, size_within, value_more, value_bound, weight_none, held, term_read, sum_fits}
 use Rattle.cf_comb.proofs.weights.weight_of.Goals as goal
 
 pub returns-in_err-term : goal.returns-in_err-term
