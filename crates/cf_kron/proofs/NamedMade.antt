@@ -1,12 +1,12 @@
-use Rattle.std.proofs.Common.{◌≡◌, ◌≢◌, ℕ, zero, suc, ◌<◌, ◌≤◌, ◌+◌, ◌-◌, ◌/◌, ◌%◌, ◌^◌, ℤ, pos, negsuc, ◌*ℤ◌, Bool, true, false, List, [], ◌∷◌, map, length, get_or, Option, Some, None, Result, Ok, Err, refl, sym, ◌∙◌, ap, subst, arith, rules}
-use Rattle.std.specs.Prelude.{◌==◌, ◌&&◌, nat_eq, if◌then◌else◌}
+use Rattle.std.proofs.Common.{◌≡◌, ℕ, suc, ◌≤◌, ◌-◌, ◌/◌, ◌%◌, ◌^◌, ℤ, pos, negsuc, ◌*ℤ◌, Bool, true, false, List, [], ◌∷◌, map, length, get_or, Option, Some, None, Result, Ok, Err, refl, sym, ◌∙◌, ap, subst, arith, rules}
+use Rattle.std.specs.Prelude.{◌&&◌, nat_eq, if◌then◌else◌}
 use Rattle.std.proofs.lemmas.Bool.Decides.{nat_tests}
 use Rattle.std.specs.List.{slice_get}
 use Rattle.std.proofs.lemmas.Option.{get_or_from_slice_get, none-some}
 use Rattle.cf_model.specs.Assignments.{number_of, first_half, second_half}
 use Rattle.cf_model.specs.Values.{Fits, fitting}
 use Rattle.cf_model.specs.FlatFunctions.{IsAssignment}
-use Rattle.cf_model.specs.Diagrams.{Levels, count, pattern, exits, IsGood, Extends}
+use Rattle.cf_model.specs.Diagrams.{Levels, pattern, IsGood, Extends}
 use Rattle.cf_model.specs.Matrices.{kronecker, identity, walsh, unit}
 use Rattle.cf_model.specs.Functions.{function_of}
 use Rattle.cf_model.proofs.AssignmentLaws.{half_level}

@@ -1,19 +1,18 @@
-use Rattle.std.proofs.Common.{◌≡◌, ℕ, zero, suc, ◌<◌, ◌≤◌, ◌+◌, ◌*◌, ◌-◌, ◌^◌, ℤ, pos, Bool, true, false, List, [], ◌∷◌, ◌++◌, map, length, get_or, Option, Some, option_map, refl, sym, ◌∙◌, ap, subst, arith, pow-suc, length-append, add-one}
+use Rattle.std.proofs.Common.{◌≡◌, ℕ, zero, suc, ◌<◌, ◌≤◌, ◌+◌, ◌*◌, ◌-◌, ◌^◌, Bool, true, false, List, [], ◌∷◌, ◌++◌, map, length, get_or, Some, option_map, refl, sym, ◌∙◌, ap, subst, arith, pow-suc}
 use Rattle.std.specs.Prelude.{All, flat_map, if◌then◌else◌}
 use Rattle.std.specs.List.{slice_get}
 use Rattle.std.proofs.lemmas.List.{length-map, get_or-map}
-use Rattle.std.proofs.lemmas.Option.{slice_get-get_or, slice_get_within, get_or_from_slice_get, slice_get-map}
+use Rattle.std.proofs.lemmas.Option.{slice_get-get_or, get_or_from_slice_get, slice_get-map}
 use Rattle.cf_model.specs.Assignments.{number_of, bits_of, all_bits, weave, row_of, column_of, first_half, second_half}
 use Rattle.cf_model.specs.Renumbering.{AllDiffer, IsCanon}
 use Rattle.cf_model.specs.FlatFunctions.{points, IsAssignment}
 use Rattle.cf_model.specs.Diagrams.{Levels, Connection, exit_at, Node, connection_at, count, node, row, pattern, exits, IsGoodConnection, IsGood, Extends}
 use Rattle.cf_model.proofs.AssignmentLaws.{half_level, length-unweave, length-weave, weave-append, length-all_bits, all_bits-place, all_bits-order, bits_of-number_of, number_of-append, number_of-below, number_of-halves}
 use Rattle.cf_model.proofs.CanonLaws.{same_lists}
-use Rattle.cf_model.proofs.RenumberingLaws.{canon_read}
 use Rattle.cf_model.proofs.FlatFunctionLaws.{points-is, number_in}
 use Rattle.cf_model.proofs.Growth.{Under, Under-width}
 use Rattle.cf_model.proofs.Entries.{Under-get_or, entry_below, entry_by_halves}
-use Rattle.cf_model.proofs.Canonicity.{level_holds, pattern_full, row_points, points_of_rows, pattern-fork}
+use Rattle.cf_model.proofs.Canonicity.{level_holds, pattern_full, row_points, points_of_rows}
 use Rattle.cf_model.proofs.Growing.{pattern_kept, Extends-trans, Extends-refl}
 use Rattle.cf_tuple.specs.Books.{Lengthens}
 use Rattle.cf_tuple.proofs.BookLaws.{Lengthens-same, Lengthens-trans}
@@ -26,8 +25,8 @@ use Rattle.cf_pair.specs.Products.{Lists, ListEach, HasListed}
 use Rattle.cf_pair.proofs.Zips.{all_labels_of, differ_map}
 use Rattle.cf_pair.proofs.Rows.{row_listed, labels_listed, each_row, Lists-kept, listed_more}
 use Rattle.cf_pair.proofs.Pairs.{callee_under, callee_kept, spelled_at}
-use Rattle.cf_kron.specs.Transposed.{HasRows, turned, exit_in, turned_exits, returned_exits, values_at}
-use Rattle.cf_kron.proofs.NamedLaws.{Split, split}
+use Rattle.cf_kron.specs.Transposed.{HasRows, turned, exit_in, turned_exits, returned_exits}
+use Rattle.cf_kron.proofs.NamedLaws.{split}
 use Rattle.cf_kron.proofs.Words.{entry_of_words, fork_labels}
 
 -- what is tabulated, read at an assignment
@@ -283,7 +282,7 @@ four p = refl
 -- what is known once level 1 was assembled
 pub base_made : (t v w : Levels) (g : Gid) → g.level ≡ 1 → (rows : List (Gid × List ℕ)) (r : Gid) (ds : List ℕ)
     → rows ≡ ((record { level = 0; at = 1 }), entry_1 (pattern t g.level g.at) false false ∷ entry_1 (pattern t g.level g.at) true false ∷ [])
-      ∷ ((record { level = 0; at = 1 }), entry_1 (pattern t g.level g.at) false true ∷ entry_1 (pattern t g.level g.at) true true ∷ []) ∷ []
+    ∷ ((record { level = 0; at = 1 }), entry_1 (pattern t g.level g.at) false true ∷ entry_1 (pattern t g.level g.at) true true ∷ []) ∷ []
     → HasCanon w r 1 (labels_over (pattern v 0) 1 (map row_place rows)) ds
     → HasCanon w r g.level (turned_exits g.level (pattern t g.level g.at)) ds
 base_made t v w g one rows r ds e c =

@@ -86,13 +86,7 @@ pub fn walsh(_alloc: Global, pkg: &mut Pkg, level: u8) -> Result<Func, NoMemory>
 
 /// The matrix of a level with 1 in row r and column c, and 0 elsewhere. Both are below
 /// 2 ^ 2 ^ (level - 1).
-pub fn unit(
-    _alloc: Global,
-    pkg: &mut Pkg,
-    level: u8,
-    r: u64,
-    c: u64,
-) -> Result<Func, NoMemory>
+pub fn unit(_alloc: Global, pkg: &mut Pkg, level: u8, r: u64, c: u64) -> Result<Func, NoMemory>
     requires some { 1 ≤ level }
     requires most { level ≤ 7 }
     requires row { r < 2 ^ (2 ^ (level - 1)) }

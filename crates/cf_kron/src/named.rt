@@ -33,13 +33,7 @@ fn entry_at(matrix: Named, row: bool, column: bool) -> i128
 {
     match matrix {
         Named::Identity => i128::from(row == column),
-        Named::Walsh => {
-            if row && column {
-                -1
-            } else {
-                1
-            }
-        }
+        Named::Walsh => { if row && column { -1 } else { 1 } }
         Named::Unit { row: r, column: c } => {
             i128::from(u64::from(row) == r && u64::from(column) == c)
         }
@@ -59,11 +53,7 @@ fn push_entries(rows: &mut Rows<i128>, matrix: Named, row: bool) -> Result<(), N
 }
 
 /// The matrix of level 1: a grouping and its different values.
-fn base(
-    alloc: Global,
-    table: &mut Table,
-    matrix: Named,
-) -> Result<(Gid, Vec<i128>), NoMemory>
+fn base(alloc: Global, table: &mut Table, matrix: Named) -> Result<(Gid, Vec<i128>), NoMemory>
     ensures value { IfOk result (λ r. Gives table.new.levels r.0 r.1.items 1
         (λ bits. Some (named_value matrix bits))) }
     ensures good { IsGood table.new.levels }

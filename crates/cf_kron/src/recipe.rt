@@ -69,7 +69,11 @@ impl Recipe for Matrices {
             Job::Transpose { f: _ } => true,
             Job::Id { level: _ } => true,
             Job::Walsh { level: _ } => true,
-            Job::Unit { level: _, r: _, c: _ } => true,
+            Job::Unit {
+                level: _,
+                r: _,
+                c: _,
+            } => true,
             _ => false,
         }
     }
@@ -91,7 +95,10 @@ impl Recipe for Matrices {
             Job::Id { level } => Ok(matrix_of(alloc, table, Named::Identity, *level)?),
             Job::Walsh { level } => Ok(matrix_of(alloc, table, Named::Walsh, *level)?),
             Job::Unit { level, r, c } => {
-                let matrix = Named::Unit { row: *r, column: *c };
+                let matrix = Named::Unit {
+                    row: *r,
+                    column: *c,
+                };
                 Ok(matrix_of(alloc, table, matrix, *level)?)
             }
             _ => unreachable!(),

@@ -37,12 +37,7 @@ fn exit_in_row(table: &Table, g: Gid, row: bool, column: bool) -> u64
 }
 
 /// Appends the row that a grouping of level 1 has for a column.
-fn push_column(
-    rows: &mut Rows<u64>,
-    table: &Table,
-    g: Gid,
-    column: bool,
-) -> Result<(), NoMemory>
+fn push_column(rows: &mut Rows<u64>, table: &Table, g: Gid, column: bool) -> Result<(), NoMemory>
     requires level { g.level ≡ 1 }
     requires good { IsGood table.now.levels }
     requires owned { Owns table.now g }

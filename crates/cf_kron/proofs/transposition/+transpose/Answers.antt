@@ -3,15 +3,14 @@ use Rattle.std.specs.Prelude.{All}
 use Rattle.std.proofs.lemmas.Option.{slice_get_within}
 use Rattle.std.proofs.lemmas.Result.{on_ok_weaker}
 use Rattle.cf_model.specs.Renumbering.{IsCanon}
-use Rattle.cf_model.specs.Diagrams.{Levels, Node, IsGood, connection_at, count, exits, node, row, pattern}
+use Rattle.cf_model.specs.Diagrams.{Levels, Node, IsGood, connection_at, count, node, row, pattern}
 use Rattle.cf_model.proofs.Canonicity.{level_holds}
 use Rattle.cf_model.proofs.Growing.{exits_kept}
 use Rattle.cf_tuple.proofs.BookLaws.{kept_at as tuple_kept}
 use Rattle.cf_table.specs.declared.Gid.{Gid}
 use Rattle.cf_table.specs.Groupings.{connection_of}
 use Rattle.cf_table.specs.Goodness.{IsGoodOver}
-use Rattle.cf_table.proofs.Told.{good_node}
-use Rattle.cf_build.specs.Assembling.{Rowed, IsRow, HasCanon}
+use Rattle.cf_build.specs.Assembling.{Rowed}
 use Rattle.cf_build.proofs.Turns.{if_ok}
 use Rattle.cf_pair.specs.Products.{Lists, connection_row}
 use Rattle.cf_pair.proofs.Pairs.{read_good, read_row}
