@@ -203,6 +203,7 @@ impl Session {
             },
             Statement::Vars(names) => changed(self.declare(names.items())),
             Statement::Let(name, expr) => changed(self.define(name, expr)),
+            Statement::Load(..) => Stepped::NoMemory,
             Statement::Value(name, bits) => {
                 answer_always(self.value(name, bits, text), text, out)
             }
