@@ -6,6 +6,7 @@ mod arguments;
 mod bindings;
 mod build;
 pub mod faults;
+mod over;
 mod recall;
 mod session;
 mod statements;

@@ -5,5 +5,5 @@ use Rattle.cf_session.proofs.arguments.arity.Goals as goal
 
 pub returns-in-Fold : goal.returns-in-Fold
 returns-in-Fold c =
-    row_count (arguments_of (tree_of c.args.expr.now)) c.items.result.now
-    (row_listed c.args.expr.now c.in-Fold.es c.items.result.now c.in-Fold.is c.items.ensures)
+    row_count (arguments_of (tree_of c.args.expr.now)) c.items-in-Fold.result.now
+    (row_listed c.args.expr.now c.in-Fold.es c.items-in-Fold.result.now c.in-Fold.is c.items-in-Fold.ensures)
