@@ -1,5 +1,5 @@
 use cf_ops::{Word1, Word2};
-use cf_script::{Expr, Exprs, ScriptFault, Statement};
+use cf_script::{Expr, Exprs, ScriptFault, Statement, Var, Vars};
 use std::{fmt, str};
 
 /// How many calls are spelled inside one another. No statement has more than 64.
@@ -74,18 +74,85 @@ fn spell_expr<W: fmt::Write>(f: &mut fmt::Formatter<W>, e: &Expr, depth: u8) -> 
         Expr::Named(name) => f.write_str(text(name)),
         Expr::Const(level, value) => write!(f, "const({level}, {value})"),
         Expr::One(word, e) => {
-            write!(f, "{}(", word1(*word))?;
-            spell_expr(f, e, depth - 1)?;
+            begin_call(f, word1(*word), e, depth - 1)?;
             f.write_str(")")
         }
-        Expr::Fold(word, es) => spell_call(f, word2(*word), es, depth - 1),
-        Expr::Ite(es) => spell_call(f, "ite", es, depth - 1),
+        Expr::Fold(word, es) => spell_list(f, word2(*word), es, depth - 1),
+        Expr::Ite(es) => spell_list(f, "ite", es, depth - 1),
+        Expr::Restrict(e, var, bit) => {
+            begin_call(f, "restrict", e, depth - 1)?;
+            spell_var(f, var)?;
+            write!(f, ", {})", u8::from(*bit))
+        }
+        Expr::Exists(e, vars) => spell_over(f, "exists", e, vars, depth - 1),
+        Expr::Forall(e, vars) => spell_over(f, "forall", e, vars, depth - 1),
+        Expr::SumOut(e, vars) => spell_over(f, "sumout", e, vars, depth - 1),
+        Expr::Compose(e, var, g) => {
+            begin_call(f, "compose", e, depth - 1)?;
+            spell_var(f, var)?;
+            end_call(f, g, depth - 1)
+        }
+        Expr::AndExists(e, g, vars) => {
+            begin_call(f, "andexists", e, depth - 1)?;
+            f.write_str(", ")?;
+            spell_expr(f, g, depth - 1)?;
+            spell_rest(f, vars)
+        }
     }
 }
 
-/// Spells a call of a word with arguments.
+/// Spells a call's word and its first argument.
 #[cycle(calls)]
-fn spell_call<W: fmt::Write>(
+fn begin_call<W: fmt::Write>(
+    f: &mut fmt::Formatter<W>,
+    word: &str,
+    e: &Expr,
+    depth: u8,
+) -> fmt::Result {
+    write!(f, "{word}(")?;
+    spell_expr(f, e, depth)
+}
+
+/// Spells a call's last argument.
+#[cycle(calls)]
+fn end_call<W: fmt::Write>(f: &mut fmt::Formatter<W>, e: &Expr, depth: u8) -> fmt::Result {
+    f.write_str(", ")?;
+    spell_expr(f, e, depth)?;
+    f.write_str(")")
+}
+
+/// Spells a call of a word with an expression and variables.
+#[cycle(calls)]
+fn spell_over<W: fmt::Write>(
+    f: &mut fmt::Formatter<W>,
+    word: &str,
+    e: &Expr,
+    vars: &Vars,
+    depth: u8,
+) -> fmt::Result {
+    begin_call(f, word, e, depth)?;
+    spell_rest(f, vars)
+}
+
+/// Spells variables, the last arguments of a call.
+fn spell_rest<W: fmt::Write>(f: &mut fmt::Formatter<W>, vars: &Vars) -> fmt::Result {
+    for var in vars.items() {
+        spell_var(f, var)?;
+    }
+    f.write_str(")")
+}
+
+/// Spells a variable behind another argument.
+fn spell_var<W: fmt::Write>(f: &mut fmt::Formatter<W>, var: &Var) -> fmt::Result {
+    match var {
+        Var::At(position) => write!(f, ", @{position}"),
+        Var::Named(name) => write!(f, ", {}", text(name)),
+    }
+}
+
+/// Spells a call of a word with a list of arguments.
+#[cycle(calls)]
+fn spell_list<W: fmt::Write>(
     f: &mut fmt::Formatter<W>,
     word: &str,
     es: &Exprs,

@@ -2,7 +2,7 @@
 use Rattle.std.proofs.Common.{ℕ, ℤ, pos, neg_ℤ, ◌≡◌, ◌≤ℤ◌, ◌==◌, ◌&&◌, nat_le, Bool, true, false, cond, List, [], ◌∷◌, length, Option, Some, None, refl, ap, sym, subst, ◌∙◌, arith}
 use Rattle.std.specs.Char.{is_ascii_digit}
 use Rattle.std.specs.List.{list_all}
-use Rattle.std.specs.Option.{option_map}
+use Rattle.std.specs.Option.{option_map, option_or}
 use Rattle.std.proofs.lemmas.Bool.{and_parts, eqb-true}
 use Rattle.std.proofs.lemmas.Bool.Decides.{nat_tests}
 use Rattle.std.proofs.lemmas.Int.{ints}
@@ -10,7 +10,7 @@ use Rattle.cf_reference.specs.Words.{begins_name, decimal_value, natural, number
 use Rattle.std.specs.Str.{bytes_eq}
 use Rattle.std.proofs.lemmas.Slice.Eq.{bytes_eq-Decides}
 use Rattle.cf_reference.specs.declared.grammar.Head.{Head}
-use Rattle.cf_reference.specs.Heads.{table, found_in, head_of}
+use Rattle.cf_reference.specs.Heads.{value_table, variable_table, variable_head, found_in, head_of}
 use Rattle.cf_reference.specs.Trees.{Num, At, Named}
 use Rattle.cf_reference.specs.Grammar.{leaf, leaf_of_place, leaf_of_number}
 
@@ -145,7 +145,7 @@ place_rest (b ∷ rest) n h = at (b == 64) h
 pub place-low : (word : List ℕ) (n : ℤ) → place word ≡ Some n → pos 0 ≤ℤ n
 place-low word n h = let r = place_rest word n h in natural-low r.0 n r.1
 
--- each word of the table is a name
+-- each word of a table is a name
 named_in : (entries : List (List ℕ × Head)) → list_all (λ entry. is_name entry.0) entries ≡ true → (word : List ℕ) (head : Head) → found_in entries word ≡ Some head
     → is_name word ≡ true
 named_in [] names word head h = cc
@@ -159,5 +159,9 @@ named_in (entry ∷ later) names word head h =
     at false is name below k = below k
 
 pub head-name : (word : List ℕ) (head : Head) → head_of word ≡ Some head → is_name word ≡ true
-unfolding head_of is_name
-head-name word head h = named_in table refl word head h
+unfolding head_of variable_head is_name
+head-name word head h = at (found_in value_table word) refl h
+  where
+    at : (o : Option Head) → found_in value_table word ≡ o → option_or o (found_in variable_table word) ≡ Some head → is_name word ≡ true
+    at None is k = named_in variable_table refl word head k
+    at (Some x) is k = named_in value_table refl word x is

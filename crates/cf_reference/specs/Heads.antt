@@ -1,4 +1,5 @@
 use Rattle.std.specs.Prelude.{ℕ, zero, suc, ◌==◌, nat_le, Bool, List, [], ◌∷◌, length, Option, Some, None, codes, if◌then◌else◌}
+use Rattle.std.specs.Option.{option_or}
 use Rattle.std.specs.Str.{bytes_eq}
 use Rattle.cf_model.specs.declared.terms.Word1.TheVariants.{Not, Neg}
 use Rattle.cf_model.specs.declared.terms.Word2.TheVariants.{And, Or, Xor, Plus, Minus, Times, Min, Max, Eq, Lt}
@@ -9,9 +10,9 @@ use Rattle.cf_reference.specs.declared.grammar.Head.TheVariants.{Const, One, Fol
 
 -- The heads of calls: the word of each, and the arguments that it takes.
 
--- the words that call
-abbrev pub table : List (List ℕ × Head)
-table =
+-- the words that call, but for those over variables
+abbrev pub value_table : List (List ℕ × Head)
+value_table =
     (codes "const", Const)
     ∷ (codes "not", One Not)
     ∷ (codes "neg", One Neg)
@@ -26,7 +27,12 @@ table =
     ∷ (codes "eq", Fold Eq)
     ∷ (codes "lt", Fold Lt)
     ∷ (codes "ite", Ite)
-    ∷ (codes "restrict", Restrict)
+    ∷ []
+
+-- those over variables
+abbrev pub variable_table : List (List ℕ × Head)
+variable_table =
+    (codes "restrict", Restrict)
     ∷ (codes "exists", Exists)
     ∷ (codes "forall", Forall)
     ∷ (codes "sumout", SumOut)
@@ -38,9 +44,12 @@ abbrev pub found_in : List (List ℕ × Head) → List ℕ → Option Head
 found_in [] word = None
 found_in (entry ∷ later) word = if bytes_eq word entry.0 then Some entry.1 else found_in later word
 
+unfoldable pub variable_head : List ℕ → Option Head
+variable_head word = found_in variable_table word
+
 -- what a word before `(` calls
 unfoldable pub head_of : List ℕ → Option Head
-head_of word = found_in table word
+head_of word = option_or (found_in value_table word) (variable_head word)
 
 -- The kinds of a call's arguments: those of the first ones, which all stand there, and that of the further ones, if there
 -- may be any.

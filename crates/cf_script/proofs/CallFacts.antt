@@ -1,13 +1,14 @@
 -- From the parts of an expression that were read to the whole of it.
 use Rattle.std.proofs.Common.{ℕ, zero, suc, ◌≡◌, ◌≤◌, Bool, ◌&&◌, true, false, List, [], ◌∷◌, ◌++◌, length, Option, Some, None, Result, Ok, Err, refl, ap, sym, subst, ◌∙◌, arith}
 use Rattle.std.specs.Prelude.{IsTrue, IfOk}
+use Rattle.std.specs.Option.{option_or}
 use Rattle.std.specs.Result.{IsErrAnd}
 use Rattle.std.proofs.lemmas.Bool.{false≢true}
 use Rattle.std.proofs.lemmas.Bool.Decides.{nat_tests}
 use Rattle.cf_reference.specs.declared.grammar.Head.{Head}
 use Rattle.cf_reference.specs.declared.grammar.Kind.{Kind}
 use Rattle.cf_reference.specs.declared.grammar.Kind.TheVariants.{Expression as AnExpression}
-use Rattle.cf_reference.specs.Heads.{head_of, takes, counted, kind_in, kind_at, signature}
+use Rattle.cf_reference.specs.Heads.{value_table, found_in, variable_head, head_of, takes, counted, kind_in, kind_at, signature}
 use Rattle.cf_reference.specs.Words.{open_sign, comma}
 use Rattle.cf_reference.specs.Trees.{Tree, Num, At, Named, Call, none, more, atom, count, atom_fits, tree_fits}
 use Rattle.cf_reference.specs.Grammar.{leaf, atom_of, SpellsLeaf, SpellsTree, SpellsArguments}
@@ -20,7 +21,7 @@ use Rattle.cf_model.specs.declared.terms.Word2.{Word2}
 use Rattle.cf_script.specs.declared.arguments.Argument.{Argument}
 use Rattle.cf_script.specs.declared.arguments.Argument.TheVariants as argument
 use Rattle.cf_model.specs.declared.terms.Word2.TheVariants.{And, Or, Xor, Plus, Minus, Times, Min, Max, Eq, Lt}
-use Rattle.cf_reference.specs.declared.grammar.Head.TheVariants.{Const, One, Fold, Ite}
+use Rattle.cf_reference.specs.declared.grammar.Head.TheVariants.{Const, One, Fold, Ite, Restrict, Exists, Forall, SumOut, Compose, AndExists}
 use Rattle.cf_script.specs.declared.trees.Exprs.{Exprs}
 use Rattle.cf_script.specs.declared.arguments.Gathered.{Gathered}
 use Rattle.cf_script.specs.declared.arguments.Gathered.TheVariants as form
@@ -28,7 +29,7 @@ use Rattle.cf_script.specs.Views.{tree_of, listed}
 use Rattle.cf_script.proofs.Rows.{fold_listed, ite_listed}
 use Rattle.cf_script.proofs.ListFacts.{HasEnds, more_behind}
 use Rattle.cf_script.specs.Readings.{IsReading, IsLeaf, SpellsNone}
-use Rattle.cf_script.specs.Arguments.{held, as_arguments, gathered, has_two, is_list, IsOf, OfKinds, HaveKinds, IsWord, IsArgument, IsCall, SpellsNoArgument, SpellsNoArguments}
+use Rattle.cf_script.specs.Arguments.{held, as_arguments, gathered, has_three, is_list, is_few, IsOf, OfKinds, HaveKinds, IsWord, IsArgument, IsCall, SpellsNoArgument, SpellsNoArguments}
 
 nil_leaf : (t : Tree) (rest : List (List ℕ)) → SpellsLeaf t [] rest → ⊥
 nil_leaf t rest h = let e = h.words in cc
@@ -64,6 +65,15 @@ none-called word all next inside is open_is of t rest h =
     let i = inv_call t word inside rest (subst (λ a. SpellsTree t a rest) (is ∙ ap (λ l. word ∷ l) open_is) h) in
     let e = i.of in
     cc
+
+-- what a word calls, by the tables
+pub head-first : (word : List ℕ) (head : Head) → Some head ≡ found_in value_table word → Some head ≡ head_of word
+unfolding head_of
+head-first word head is = ap (λ o. option_or o (variable_head word)) is
+
+pub head-later : (word : List ℕ) (o : Option Head) → None ≡ found_in value_table word → o ≡ variable_head word → o ≡ head_of word
+unfolding head_of
+head-later word o nothing is = is ∙ ap (λ x. option_or x (variable_head word)) nothing
 
 pub is-leaf : (e : Expr) (word : List ℕ) (all next : List (List ℕ)) → all ≡ word ∷ next → ((x : List (List ℕ)) → next ≡ open_sign ∷ x → ⊥) → IsLeaf e word → IsReading e all next
 is-leaf e word all next is other r = record {
@@ -182,27 +192,40 @@ list_kind (Fold Times) i h = in_some i
 list_kind (Fold Min) i h = in_some i
 list_kind (Fold Max) i h = in_some i
 list_kind Ite i h = in_three i
+list_kind Restrict i h = absurd (false≢true h)
+list_kind Exists i h = absurd (false≢true h)
+list_kind Forall i h = absurd (false≢true h)
+list_kind SumOut i h = absurd (false≢true h)
+list_kind Compose i h = absurd (false≢true h)
+list_kind AndExists i h = absurd (false≢true h)
 
--- a call that keeps no list has at most two arguments
-few_taken : (head : Head) (n : ℕ) → is_list head ≡ false → takes head n ≡ true → n ≤ 2
+-- a call that keeps no list has at most three arguments
+few_taken : (head : Head) (n : ℕ) → is_few head ≡ true → takes head n ≡ true → n ≤ 3
 few_taken Const n h t = grind (arith, nat_tests)
 few_taken (One word) n h t = grind (arith, nat_tests)
-few_taken (Fold word) n h t = absurd (false≢true (sym h))
-few_taken Ite n h t = absurd (false≢true (sym h))
+few_taken (Fold word) n h t = absurd (false≢true h)
+few_taken Ite n h t = absurd (false≢true h)
+few_taken Restrict n h t = grind (arith, nat_tests)
+few_taken Exists n h t = absurd (false≢true h)
+few_taken Forall n h t = absurd (false≢true h)
+few_taken SumOut n h t = absurd (false≢true h)
+few_taken Compose n h t = grind (arith, nat_tests)
+few_taken AndExists n h t = absurd (false≢true h)
 
-two_long : (args : Gathered) → has_two args ≡ true → length (gathered args) ≡ 2
-two_long form.Empty two = absurd (false≢true two)
-two_long (form.One b) two = absurd (false≢true two)
-two_long (form.Two b c) two = refl
+three_long : (args : Gathered) → has_three args ≡ true → length (gathered args) ≡ 3
+three_long form.Empty three = absurd (false≢true three)
+three_long (form.One b) three = absurd (false≢true three)
+three_long (form.Two b c) three = absurd (false≢true three)
+three_long (form.Three b c d) three = refl
 
--- no call has what comes behind two
-pub too-many : (head : Head) (args : Gathered) (n : ℕ) (all end after : List (List ℕ)) → is_list head ≡ false → has_two args ≡ true → length (gathered args) ≡ suc n → HasEnds head (suc n) all end
+-- no call has what comes behind three
+pub too-many : (head : Head) (args : Gathered) (n : ℕ) (all end after : List (List ℕ)) → is_few head ≡ true → has_three args ≡ true → length (gathered args) ≡ suc n → HasEnds head (suc n) all end
     → end ≡ comma ∷ after → SpellsNoArguments head all
-too-many head args n all end after few two long e is ts rest number h =
+too-many head args n all end after few three long e is ts rest number h =
     let k = e.ends ts rest h in
     let some = more_behind head n k.0 end after rest is k.1 in
     let most = few_taken head (count ts) few number in
-    absurd (omega (arith, two_long args two, long, k.2, some, most))
+    absurd (omega (arith, three_long args three, long, k.2, some, most))
 
 -- an expression as an argument of a call that keeps a list
 pub listed-read : (head : Head) (i : ℕ) (e : Expr) (all rest : List (List ℕ)) → is_list head ≡ true → IsReading e all rest → IsArgument (kind_at head i) (argument.Expr e) all rest

@@ -5,6 +5,7 @@ pub mod Rows
 pub mod ReadingFacts
 pub mod ListFacts
 pub mod CallFacts
+pub mod OverFacts
 pub mod WideFacts
 pub mod WindowFacts
 pub mod DepthFacts

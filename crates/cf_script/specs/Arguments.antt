@@ -1,7 +1,7 @@
-use Rattle.std.specs.Prelude.{ℕ, suc, zero, ◌≡◌, ◌||◌, pos, List, [], ◌∷◌, length, Bool, true, false, Option, Some, None, IsTrue}
+use Rattle.std.specs.Prelude.{ℕ, suc, zero, ◌≡◌, ◌||◌, pos, List, [], ◌∷◌, ◌++◌, length, Bool, true, false, Option, Some, None, IsTrue}
 use Rattle.std.specs.Ordering.{int_eq}
 use Rattle.cf_reference.specs.declared.grammar.Head.{Head}
-use Rattle.cf_reference.specs.declared.grammar.Head.TheVariants.{Fold, Ite}
+use Rattle.cf_reference.specs.declared.grammar.Head.TheVariants.{Const, One, Fold, Ite, Restrict, Exists, Forall, SumOut, Compose, AndExists}
 use Rattle.cf_reference.specs.declared.grammar.Kind.{Kind}
 use Rattle.cf_reference.specs.declared.grammar.Kind.TheVariants.{Expression as AnExpression, Variable as AVariable, Natural as ANatural, Number as ANumber, Bit as ABit}
 use Rattle.cf_reference.specs.Heads.{kind_at, takes}
@@ -10,8 +10,12 @@ use Rattle.cf_reference.specs.Grammar.{atom_of as atom_of_word, SpellsTree, Spel
 use Rattle.cf_script.specs.declared.trees.Expr.{Expr}
 use Rattle.cf_script.specs.declared.arguments.Gathered.{Gathered}
 use Rattle.cf_script.specs.declared.arguments.Gathered.TheVariants as form
+use Rattle.cf_script.specs.declared.arguments.Operands.{Operands}
+use Rattle.cf_script.specs.declared.arguments.Operands.TheVariants as operand
+use Rattle.cf_script.specs.declared.arguments.Over.{Over}
 use Rattle.cf_script.specs.declared.arguments.Argument.{Argument}
 use Rattle.cf_script.specs.declared.arguments.Argument.TheVariants as argument
+use Rattle.cf_script.specs.declared.trees.Var.{Var}
 use Rattle.cf_script.specs.Vars.{atom_of}
 use Rattle.cf_script.specs.Views.{tree_of}
 
@@ -50,10 +54,35 @@ abbrev pub gathered : Gathered → List Argument
 gathered form.Empty = []
 gathered (form.One a) = a ∷ []
 gathered (form.Two a b) = a ∷ b ∷ []
+gathered (form.Three a b c) = a ∷ b ∷ c ∷ []
 
-abbrev pub has_two : Gathered → Bool
-has_two (form.Two a b) = true
-has_two other = false
+abbrev pub has_three : Gathered → Bool
+has_three (form.Three a b c) = true
+has_three other = false
+
+-- variables as arguments
+abbrev pub as_variables : List Var → List Argument
+as_variables [] = []
+as_variables (v ∷ vars) = argument.Var v ∷ as_variables vars
+
+abbrev pub operands_of : Operands → List Argument
+operands_of operand.Empty = []
+operands_of (operand.One e) = argument.Expr e ∷ []
+operands_of (operand.Two e f) = argument.Expr e ∷ argument.Expr f ∷ []
+
+-- the arguments of a call over variables that were gathered
+abbrev pub over : Over → List Argument
+over args = operands_of args.operands ++ as_variables args.vars
+
+abbrev pub has_both : Operands → Bool
+has_both (operand.Two e f) = true
+has_both other = false
+
+-- An argument comes behind others: an expression where there are no variables, or a variable.
+abbrev pub Follows : Over → Argument → Type 0
+Follows args (argument.Expr e) = (has_both args.operands ≡ false) × (args.vars ≡ [])
+Follows args (argument.Var v) = Unit {0}
+Follows args (argument.Number n) = ⊥
 
 -- whether a call keeps its arguments as a list
 abbrev pub is_list : Head → Bool
@@ -61,9 +90,21 @@ is_list (Fold word) = true
 is_list Ite = true
 is_list other = false
 
-abbrev pub HasOne : Gathered → Type 0
-HasOne (form.One a) = Unit {0}
-HasOne other = ⊥
+-- whether a call is over any number of variables, and keeps those as a list
+abbrev pub is_over : Head → Bool
+is_over Exists = true
+is_over Forall = true
+is_over SumOut = true
+is_over AndExists = true
+is_over other = false
+
+-- whether a call has at most three arguments, and keeps no list
+abbrev pub is_few : Head → Bool
+is_few Const = true
+is_few (One word) = true
+is_few Restrict = true
+is_few Compose = true
+is_few other = false
 
 -- the kind of each place
 abbrev pub HaveKinds : (ℕ → Kind) → List Argument → Type 0

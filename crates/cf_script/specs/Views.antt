@@ -1,11 +1,21 @@
-use Rattle.std.specs.Prelude.{List, [], ◌∷◌}
+use Rattle.std.specs.Prelude.{ℤ, pos, Bool, List, [], ◌∷◌, if◌then◌else◌}
 use Rattle.cf_reference.specs.declared.grammar.Head.TheVariants as head
 use Rattle.cf_reference.specs.Trees.{Number, Tree, Num, At, Named, Call, Arguments, none, more, atom}
 use Rattle.cf_reference.specs.Trees as tree
-use Rattle.cf_script.specs.declared.trees.Expr.{Expr, One', Fold', Ite', Row_of-Expr, end_of-Expr, more_of-Expr}
+use Rattle.cf_script.specs.declared.trees.Expr.{Expr, One', Fold', Ite', Restrict', Exists', Forall', SumOut', Compose', AndExists', Row_of-Expr, end_of-Expr, more_of-Expr}
 use Rattle.cf_script.specs.declared.trees.Expr as expr
+use Rattle.cf_script.specs.declared.trees.Var.{Var}
+use Rattle.cf_script.specs.Vars.{atom_of}
 use Rattle.cf_script.specs.declared.trees.Statement.{Statement}
 use Rattle.cf_script.specs.declared.trees.Statement.TheVariants as statement
+
+-- variables as arguments
+abbrev pub atoms : List Var → Arguments
+atoms [] = none
+atoms (v ∷ later) = atom (atom_of v) (atoms later)
+
+abbrev pub bit_number : Bool → ℤ
+bit_number b = if b then pos 1 else pos 0
 
 -- expressions and statements without where they lie in memory
 abbrev mutual
@@ -17,6 +27,12 @@ abbrev mutual
   tree_of (One' word at e) = Call (head.One word) (more (tree_of e) none)
   tree_of (Fold' word shape all) = Call (head.Fold word) (row_of all)
   tree_of (Ite' shape all) = Call head.Ite (row_of all)
+  tree_of (Restrict' at e v b) = Call head.Restrict (more (tree_of e) (atom (atom_of v) (atom (Number (bit_number b)) none)))
+  tree_of (Exists' at e vars) = Call head.Exists (more (tree_of e) (atoms vars))
+  tree_of (Forall' at e vars) = Call head.Forall (more (tree_of e) (atoms vars))
+  tree_of (SumOut' at e vars) = Call head.SumOut (more (tree_of e) (atoms vars))
+  tree_of (Compose' at e v also f) = Call head.Compose (more (tree_of e) (atom (atom_of v) (more (tree_of f) none)))
+  tree_of (AndExists' at e also f vars) = Call head.AndExists (more (tree_of e) (more (tree_of f) (atoms vars)))
 
   pub row_of : {m : _} → Row_of-Expr m → Arguments
   row_of end_of-Expr = none

@@ -2,14 +2,14 @@
 
 ghost use Rattle.std.specs.Prelude.{◌≡◌, ◌<◌, [], length, true, false, None, IfOk, IfSome, IfNone, IsErrOf};
 ghost use Rattle.cf_reference.specs.Words.{words};
-ghost use Rattle.cf_reference.specs.Heads.{head_of as head_of_word, kind_at as kind_of, takes as takes_of, signature};
+ghost use Rattle.cf_reference.specs.Heads.{value_table, found_in, head_of as head_of_word, variable_head as variable_head_of, kind_at as kind_of, takes as takes_of, signature};
 ghost use Rattle.cf_reference.specs.Trees.{Call};
 ghost use Rattle.cf_reference.specs.Grammar.{leaf as leaf_of, atom_of as atom_of_word};
 ghost use Rattle.cf_script.specs.Views.{tree_of};
-ghost use Rattle.cf_script.specs.Arguments.{IsWord, OfKinds, held, as_arguments, gathered, is_list, IsArgument, IsCall, SpellsNoArgument, AreGathered, SpellsNoArguments};
+ghost use Rattle.cf_script.specs.Arguments.{IsWord, OfKinds, held, as_arguments, gathered, over, is_few, is_list, is_over, IsArgument, IsCall, SpellsNoArgument, AreGathered, SpellsNoArguments};
 ghost use Rattle.cf_script.specs.Readings.{IsReading, IsLeaf, SpellsNone};
 
-use crate::arguments::{Argument, Gathered};
+use crate::arguments::{Argument, Gathered, Over};
 use crate::numbers::{natural, number, place};
 use crate::trees::{Expr, Exprs, Var};
 use crate::words::{after, is_name, next_word};
@@ -76,10 +76,20 @@ fn leaf(word: &[u8]) -> Option<Expr<'_>>
 }
 
 /// What a word before `(` calls.
-#[tactic(auto, unfolding(cf_reference::specs::Heads::head_of))]
 #[inline(always)]
 fn head_of(word: &[u8]) -> Option<Head>
     ensures { result ≡ head_of_word word.now }
+{
+    match value_head(word) {
+        Some(head) => Some(head),
+        None => variable_head(word),
+    }
+}
+
+/// What a word before `(` calls, but for those over variables.
+#[inline(always)]
+fn value_head(word: &[u8]) -> Option<Head>
+    ensures { result ≡ found_in value_table word.now }
 {
     match word {
         b"const" => Some(Head::Const),
@@ -100,6 +110,28 @@ fn head_of(word: &[u8]) -> Option<Head>
     }
 }
 
+/// What a word before `(` calls of those over variables.
+#[tactic(auto, unfolding(cf_reference::specs::Heads::variable_head))]
+fn variable_head(word: &[u8]) -> Option<Head>
+    ensures { result ≡ variable_head_of word.now }
+{
+    if word == b"restrict".as_slice() {
+        Some(Head::Restrict)
+    } else if word == b"exists".as_slice() {
+        Some(Head::Exists)
+    } else if word == b"forall".as_slice() {
+        Some(Head::Forall)
+    } else if word == b"sumout".as_slice() {
+        Some(Head::SumOut)
+    } else if word == b"compose".as_slice() {
+        Some(Head::Compose)
+    } else if word == b"andexists".as_slice() {
+        Some(Head::AndExists)
+    } else {
+        None
+    }
+}
+
 /// The kind of the argument at a place.
 fn kind_at(head: Head, place: usize) -> Kind
     ensures { result ≡ kind_of head place }
@@ -110,7 +142,24 @@ fn kind_at(head: Head, place: usize) -> Kind
             1 => Kind::Number,
             _ => Kind::Expression,
         },
-        _ => Kind::Expression,
+        Head::One(_) | Head::Fold(_) | Head::Ite => Kind::Expression,
+        Head::Restrict => match place {
+            1 => Kind::Variable,
+            2 => Kind::Bit,
+            _ => Kind::Expression,
+        },
+        Head::Compose => match place {
+            1 => Kind::Variable,
+            _ => Kind::Expression,
+        },
+        Head::Exists | Head::Forall | Head::SumOut => match place {
+            0 => Kind::Expression,
+            _ => Kind::Variable,
+        },
+        Head::AndExists => match place {
+            0 | 1 => Kind::Expression,
+            _ => Kind::Variable,
+        },
     }
 }
 
@@ -123,7 +172,9 @@ fn takes(head: Head, arguments: usize) -> bool
         Head::Fold(_) => arguments >= 2,
         Head::Const => arguments == 2,
         Head::One(_) => arguments == 1,
-        Head::Ite => arguments == 3,
+        Head::Ite | Head::Restrict | Head::Compose => arguments == 3,
+        Head::Exists | Head::Forall | Head::SumOut => arguments >= 2,
+        Head::AndExists => arguments >= 3,
     }
 }
 
@@ -210,7 +261,10 @@ fn read_call<'a>(alloc: Global, head: Head, text: &'a [u8]) -> Result<(Expr<'a>,
 {
     match head {
         Head::Fold(_) | Head::Ite => read_list(alloc, head, text),
-        Head::Const | Head::One(_) => read_few(alloc, head, text),
+        Head::Exists | Head::Forall | Head::SumOut | Head::AndExists => {
+            read_over(alloc, head, text)
+        }
+        Head::Const | Head::One(_) | Head::Restrict | Head::Compose => read_few(alloc, head, text),
     }
 }
 
@@ -218,7 +272,7 @@ fn read_call<'a>(alloc: Global, head: Head, text: &'a [u8]) -> Result<(Expr<'a>,
 #[cycle(expressions)]
 #[inline(never)]
 fn read_few<'a>(alloc: Global, head: Head, text: &'a [u8]) -> Result<(Expr<'a>, &'a [u8]), Fault>
-    requires { is_list head ≡ false }
+    requires { is_few head ≡ true }
     ensures found { IfOk result (λ r. IsCall head r.0 (words text.now) (words r.1.now)) }
     ensures shorter { IfOk result (λ r. length r.1.now < length text.now) }
     ensures only { IsErrOf result Fault.Malformed → SpellsNoArguments head (words text.now) }
@@ -257,6 +311,35 @@ fn read_list<'a>(alloc: Global, head: Head, text: &'a [u8]) -> Result<(Expr<'a>,
     }
 }
 
+/// The call of a head over variables, from the text behind its `(`.
+#[cycle(expressions)]
+#[inline(never)]
+fn read_over<'a>(alloc: Global, head: Head, text: &'a [u8]) -> Result<(Expr<'a>, &'a [u8]), Fault>
+    requires { is_over head ≡ true }
+    ensures found { IfOk result (λ r. IsCall head r.0 (words text.now) (words r.1.now)) }
+    ensures shorter { IfOk result (λ r. length r.1.now < length text.now) }
+    ensures only { IsErrOf result Fault.Malformed → SpellsNoArguments head (words text.now) }
+{
+    let mut args = Over::new(alloc);
+    let (first, mut end) = read_argument(alloc, kind_at(head, 0), text)?;
+    args.push(first)?;
+    while let Some(more) = after(b',', end) {
+        let (argument, rest) = read_argument(alloc, kind_at(head, args.len()), more)?;
+        args.push(argument)?;
+        end = rest;
+    }
+    match after(b')', end) {
+        Some(rest) => {
+            if takes(head, args.len()) {
+                Ok((over_call(alloc, head, args)?, rest))
+            } else {
+                Err(Fault::Malformed)
+            }
+        }
+        None => Err(Fault::Malformed),
+    }
+}
+
 /// Gathers the arguments of a head that keeps no list of them, where there are none so far.
 #[cycle(expressions)]
 fn gather<'a>(
@@ -266,7 +349,7 @@ fn gather<'a>(
     text: &'a [u8],
 ) -> Result<&'a [u8], Fault>
     requires none { gathered args.old ≡ [] }
-    requires few { is_list head ≡ false }
+    requires few { is_few head ≡ true }
     ensures found { IfOk result (λ r. AreGathered head args.new (words text.now) (words r.now)) }
     ensures shorter { IfOk result (λ r. length r.now < length text.now) }
     ensures only { IsErrOf result Fault.Malformed → SpellsNoArguments head (words text.now) }
@@ -296,7 +379,7 @@ fn gather<'a>(
 /// The call of a head that keeps no list of its arguments, with those that it takes.
 fn few_call<'a>(alloc: Global, head: Head, args: Gathered<'a>) -> Result<Expr<'a>, NoMemory>
     requires kinds { OfKinds (signature head).first (signature head).further (gathered args) }
-    requires few { is_list head ≡ false }
+    requires few { is_few head ≡ true }
     ensures { IfOk result (λ e. tree_of e ≡ Call head (held (gathered args.entry))) }
 {
     match head {
@@ -305,7 +388,43 @@ fn few_call<'a>(alloc: Global, head: Head, args: Gathered<'a>) -> Result<Expr<'a
             Ok(Expr::Const(level, n))
         }
         Head::One(word) => Ok(Expr::One(word, Box::new(alloc, args.expr())?)),
-        Head::Fold(_) | Head::Ite => unreachable!(),
+        Head::Restrict => {
+            let (e, var, bit) = args.expr_var_bit();
+            Ok(Expr::Restrict(Box::new(alloc, e)?, var, bit))
+        }
+        Head::Compose => {
+            let (e, var, f) = args.expr_var_expr();
+            Ok(Expr::Compose(Box::new(alloc, e)?, var, Box::new(alloc, f)?))
+        }
+        _ => unreachable!(),
+    }
+}
+
+/// The call of a head over variables, with the arguments that it takes.
+#[tactic(auto, using(crate::proofs::OverFacts::held_variables))]
+fn over_call<'a>(alloc: Global, head: Head, args: Over<'a>) -> Result<Expr<'a>, NoMemory>
+    requires kinds { OfKinds (signature head).first (signature head).further (over args) }
+    requires variables { is_over head ≡ true }
+    ensures { IfOk result (λ e. tree_of e ≡ Call head (held (over args.entry))) }
+{
+    match head {
+        Head::Exists => {
+            let (e, vars) = args.expr_vars();
+            Ok(Expr::Exists(Box::new(alloc, e)?, vars))
+        }
+        Head::Forall => {
+            let (e, vars) = args.expr_vars();
+            Ok(Expr::Forall(Box::new(alloc, e)?, vars))
+        }
+        Head::SumOut => {
+            let (e, vars) = args.expr_vars();
+            Ok(Expr::SumOut(Box::new(alloc, e)?, vars))
+        }
+        Head::AndExists => {
+            let (e, f, vars) = args.two_exprs_vars();
+            Ok(Expr::AndExists(Box::new(alloc, e)?, Box::new(alloc, f)?, vars))
+        }
+        _ => unreachable!(),
     }
 }
 
@@ -317,6 +436,6 @@ fn list_call<'a>(head: Head, es: Exprs<'a>) -> Expr<'a>
     match head {
         Head::Fold(word) => Expr::Fold(word, es),
         Head::Ite => Expr::Ite(es),
-        Head::Const | Head::One(_) => unreachable!(),
+        _ => unreachable!(),
     }
 }

@@ -12,4 +12,4 @@ pub(crate) mod words;
 
 pub use faults::ScriptFault;
 pub use statements::parse_line;
-pub use trees::{Expr, Exprs, NameSlices, Statement, Var};
+pub use trees::{Expr, Exprs, NameSlices, Statement, Var, Vars};

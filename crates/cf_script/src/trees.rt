@@ -24,6 +24,18 @@ pub enum Expr<'a> {
     Fold(Word2, Exprs<'a>),
     /// The second of three expressions where the first one isn't 0, else the third one.
     Ite(Exprs<'a>),
+    /// The expression with the variable's bit replaced by a bit.
+    Restrict(Box<Expr<'a>>, Var<'a>, bool),
+    /// Whether some setting of the variables' bits makes the expression nonzero.
+    Exists(Box<Expr<'a>>, Vars<'a>),
+    /// Whether every setting of the variables' bits makes the expression nonzero.
+    Forall(Box<Expr<'a>>, Vars<'a>),
+    /// One variable after another, the sum of the expression's values for both settings of its bit.
+    SumOut(Box<Expr<'a>>, Vars<'a>),
+    /// The first expression with the variable's bit replaced by whether the last one is nonzero.
+    Compose(Box<Expr<'a>>, Var<'a>, Box<Expr<'a>>),
+    /// Whether some setting of the variables' bits makes both expressions nonzero.
+    AndExists(Box<Expr<'a>>, Box<Expr<'a>>, Vars<'a>),
 }
 
 /// A variable.
@@ -33,6 +45,48 @@ pub enum Var<'a> {
     At(i128),
     /// By its name, a slice of the line.
     Named(&'a [u8]),
+}
+
+/// A list of variables.
+#[derive(Drop)]
+pub struct Vars<'a> {
+    items: Vec<Var<'a>>,
+}
+
+impl<'a> Model for Vars<'a> {
+    ghost use Rattle.std.specs.Prelude.{List};
+    ghost use Rattle.cf_script.specs.declared.trees.Var.{Var};
+
+    ghost Value = { List Var };
+
+    ghost view = { λ vars. vars.items.items };
+}
+
+impl<'a> Vars<'a> {
+    /// The empty list.
+    pub fn new(alloc: Global) -> Vars<'a>
+        ensures { result ≡ [] }
+    {
+        Vars {
+            items: Vec::new(alloc),
+        }
+    }
+
+    /// Appends a variable. Without memory the list is as before.
+    pub fn push(&mut self, item: Var<'a>) -> Result<(), NoMemory>
+        ensures ok { OnOk result (self.new ≡ self.old ++ item.entry ∷ []) }
+        ensures err { OnErr result (self.new ≡ self.old) }
+    {
+        self.items.push(item)?;
+        Ok(())
+    }
+
+    /// The variables in their order.
+    pub fn items(&self) -> &[Var<'a>]
+        ensures { result.now ≡ self.now }
+    {
+        self.items.as_slice()
+    }
 }
 
 /// A list of expressions.

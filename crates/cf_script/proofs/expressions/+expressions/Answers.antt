@@ -5,9 +5,10 @@ use Rattle.cf_reference.specs.Heads.{kind_at, takes}
 use Rattle.cf_reference.specs.Words.{words}
 use Rattle.cf_reference.specs.Grammar.{lead}
 use Rattle.cf_script.specs.declared.expressions.Fault.TheVariants.{Malformed}
-use Rattle.cf_script.specs.Arguments.{gathered, as_arguments, IsArgument, SpellsNoArgument}
+use Rattle.cf_script.specs.Arguments.{gathered, over, as_arguments, IsArgument, SpellsNoArgument}
 use Rattle.cf_script.specs.declared.arguments.Argument.TheVariants as argument
-use Rattle.cf_script.proofs.CallFacts.{none-empty, is-call, none-inside, none-called, is-leaf, none-leaf, argument-read, argument-word, none-argument, too-many, handed-on, if-ok, listed-read, listed-none, pushed-listed, as_many}
+use Rattle.cf_script.proofs.OverFacts.{follows, first-follows}
+use Rattle.cf_script.proofs.CallFacts.{none-empty, of-kinds, is-call, none-inside, none-called, is-leaf, none-leaf, argument-read, argument-word, none-argument, too-many, handed-on, if-ok, listed-read, listed-none, pushed-listed, as_many}
 use Rattle.cf_script.proofs.ListFacts.{front-none, ends-none, front-more, ends-more, front-whole, no-next, no-end, other-number, pushed-length}
 use Rattle.cf_script.proofs.expressions.+expressions.Goals as goal
 
@@ -185,4 +186,84 @@ read_list-returns-in-Some-after-clause-only t c = λ e.
 
 pub read_list-returns-clause-only : goal.read_list-returns-clause-only
 read_list-returns-clause-only t c = λ e.
+    no-end c.args.head c.loop-more.invariant.ends.0 (words c.args.text.now) (words c.loop-more.end.now) c.loop-more.invariant.ends.2 c.in_default.ensures.none c.in-None.ensures.none
+
+pub read_over-returns-in_err-first-clause-only : goal.read_over-returns-in_err-first-clause-only
+read_over-returns-in_err-first-clause-only t c = λ e.
+    no-next c.args.head 0 (words c.args.text.now) (words c.args.text.now) (words c.args.text.now) (ends-none c.args.head (words c.args.text.now)) refl
+    (subst (λ (k : Kind). SpellsNoArgument k (words c.args.text.now)) c.kind_at.ensures (c.in_err-first.ensures.only (ap Err (sym (handed-on _ Malformed c.from_residual.result c.from_residual.ensures.1 e)))))
+
+pub read_over-loop-more-init : goal.read_over-loop-more-init
+read_over-loop-more-init t c =
+    let all = words c.args.text.now in
+    let end = words c.in_ok-first.end.now in
+    let is = c.in_ok-push.ensures ∙ ap (λ xs. xs ++ c.in_ok-first.first ∷ []) c.new-args.ensures in
+    let read = subst (λ (k : Kind). IsArgument k c.in_ok-first.first all end) c.kind_at.ensures c.in_ok-first.ensures.found in
+    record {
+      shorter = c.in_ok-first.ensures.shorter;
+      front = front-more c.args.head [] _ c.in_ok-first.first all all all end is (front-none c.args.head [] all refl) refl read;
+      ends = (0, ap length is, ends-more c.args.head 0 c.in_ok-first.first all all all end (ends-none c.args.head all) refl read);
+    }
+
+pub read_over-returns-in_err-argument-clause-only : goal.read_over-returns-in_err-argument-clause-only
+read_over-returns-in_err-argument-clause-only t c = λ e.
+    let kept = c.loop-more.invariant in
+    let kind = c.kind_at-in-Some.ensures ∙ ap (kind_at c.args.head) (c.len.ensures ∙ kept.ends.1) in
+    no-next c.args.head (suc kept.ends.0) (words c.args.text.now) (words c.loop-more.end.now) (words c.in-Some.more.now) kept.ends.2 c.in-Some.ensures.found
+    (subst (λ (k : Kind). SpellsNoArgument k (words c.in-Some.more.now)) kind
+    (c.in_err-argument.ensures.only (ap Err (sym (handed-on _ Malformed c.from_residual-in_err-argument.result c.from_residual-in_err-argument.ensures.1 e)))))
+
+pub read_over-loop-more-preserved : goal.read_over-loop-more-preserved
+read_over-loop-more-preserved t c =
+    let kept = c.loop-more.invariant in
+    let all = words c.args.text.now in
+    let end = words c.loop-more.end.now in
+    let after = words c.in-Some.more.now in
+    let rest = words c.in_ok-argument.rest.now in
+    let kind = c.kind_at-in-Some.ensures ∙ ap (kind_at c.args.head) (c.len.ensures) in
+    let read = subst (λ (k : Kind). IsArgument k c.in_ok-argument.argument after rest) kind c.in_ok-argument.ensures.found in
+    record {
+      shorter = omega (arith, kept.shorter, c.in_ok-argument.ensures.shorter, c.in-Some.ensures.shorter);
+      front = front-more c.args.head (over c.loop-more.args) _ c.in_ok-argument.argument all end after rest c.in_ok-push-2.ensures kept.front
+          (subst (λ n. end ≡ lead n ++ after) (sym kept.ends.1) c.in-Some.ensures.found) read;
+      ends = (
+        suc kept.ends.0,
+        pushed-length kept.ends.0 (over c.loop-more.args) _ c.in_ok-argument.argument c.in_ok-push-2.ensures kept.ends.1,
+        ends-more c.args.head (suc kept.ends.0) c.in_ok-argument.argument all end after rest kept.ends.2 c.in-Some.ensures.found
+            (subst (λ n. IsArgument (kind_at c.args.head n) c.in_ok-argument.argument after rest) kept.ends.1 read),
+      );
+    }
+
+pub read_over-push-requires : goal.read_over-push-requires
+read_over-push-requires t c =
+    let read = subst (λ (k : Kind). IsArgument k c.in_ok-first.first (words c.args.text.now) (words c.in_ok-first.end.now)) c.kind_at.ensures c.in_ok-first.ensures.found in
+    first-follows c.args.head c.new-args.result c.in_ok-first.first c.requires c.new-args.ensures read.kinds
+
+pub read_over-push-requires-in-Some : goal.read_over-push-requires-in-Some
+read_over-push-requires-in-Some t c =
+    let kind = c.kind_at-in-Some.ensures ∙ ap (kind_at c.args.head) (c.len.ensures) in
+    let read = subst (λ (k : Kind). IsArgument k c.in_ok-argument.argument (words c.in-Some.more.now) (words c.in_ok-argument.rest.now)) kind c.in_ok-argument.ensures.found in
+    follows c.args.head c.loop-more.args c.in_ok-argument.argument c.requires c.loop-more.invariant.front.kinds read.kinds
+
+pub read_over-over_call-requires-clause-kinds : goal.read_over-over_call-requires-clause-kinds
+read_over-over_call-requires-clause-kinds t c =
+    of-kinds c.args.head (over c.loop-more.args) (sym (c.takes.ensures ∙ ap (takes c.args.head) (c.len-in-Some-after.ensures)) ∙ c.if-takes.true)
+    c.loop-more.invariant.front.kinds
+
+pub read_over-returns-then-takes-clause-found : goal.read_over-returns-then-takes-clause-found
+read_over-returns-then-takes-clause-found t c = record {
+  arguments = over c.loop-more.args;
+  read = front-whole c.args.head c.loop-more.invariant.ends.0 (over c.loop-more.args) (words c.args.text.now) (words c.loop-more.end.now) (words c.in-Some-after.rest.now)
+      c.loop-more.invariant.ends.1 c.loop-more.invariant.front c.in-Some-after.ensures.found
+      (sym (c.takes.ensures ∙ ap (takes c.args.head) (c.len-in-Some-after.ensures)) ∙ c.if-takes.true);
+  same = c.in_ok-over_call-in-Some-after.ensures;
+}
+
+pub read_over-returns-in-Some-after-clause-only : goal.read_over-returns-in-Some-after-clause-only
+read_over-returns-in-Some-after-clause-only t c = λ e.
+    other-number c.args.head c.loop-more.invariant.ends.0 (words c.args.text.now) (words c.loop-more.end.now) c.loop-more.invariant.ends.2 c.in_default.ensures.none
+    (sym (c.takes.ensures ∙ ap (takes c.args.head) (c.len-in-Some-after.ensures ∙ c.loop-more.invariant.ends.1)) ∙ c.if-takes.false)
+
+pub read_over-returns-clause-only : goal.read_over-returns-clause-only
+read_over-returns-clause-only t c = λ e.
     no-end c.args.head c.loop-more.invariant.ends.0 (words c.args.text.now) (words c.loop-more.end.now) c.loop-more.invariant.ends.2 c.in_default.ensures.none c.in-None.ensures.none

@@ -1,6 +1,6 @@
 use Rattle.std.proofs.Common.{ℕ, suc, ◌≡◌, ◌+◌, ◌*◌, ◌<◌, length}
 use Rattle.cf_reference.specs.Words.{words}
-use Rattle.cf_script.specs.Arguments.{gathered, as_arguments}
+use Rattle.cf_script.specs.Arguments.{gathered, over, as_arguments}
 use Rattle.cf_script.proofs.ListFacts.{AreFront, HasEnds}
 use Rattle.cf_script.proofs.expressions.+expressions.Given as goal
 
@@ -15,6 +15,9 @@ decreases-read_few l = 3 * length l.text.now + 3
 
 abbrev pub decreases-read_list : goal.decreases-read_list
 decreases-read_list l = 3 * length l.text.now + 2
+
+abbrev pub decreases-read_over : goal.decreases-read_over
+decreases-read_over l = 3 * length l.text.now + 2
 
 abbrev pub decreases-gather : goal.decreases-gather
 decreases-gather l = 3 * length l.text.now + 2
@@ -31,6 +34,16 @@ invariant-read_list-loop-more l = record {
 
 abbrev pub decreases-read_list-loop-more : goal.decreases-read_list-loop-more
 decreases-read_list-loop-more l = length l.end
+
+abbrev pub invariant-read_over-loop-more : goal.invariant-read_over-loop-more
+invariant-read_over-loop-more l = record {
+  shorter : length l.end < length l.text;
+  front : AreFront l.head (over l.args) (words l.text) (words l.end);
+  ends : (n : ℕ) × (length (over l.args) ≡ suc n) × HasEnds l.head (suc n) (words l.text) (words l.end);
+}
+
+abbrev pub decreases-read_over-loop-more : goal.decreases-read_over-loop-more
+decreases-read_over-loop-more l = length l.end
 
 abbrev pub invariant-gather-loop-more : goal.invariant-gather-loop-more
 invariant-gather-loop-more l = record {
