@@ -179,7 +179,7 @@ AreNatural [] = Unit {0}
 AreNatural (Position i ∷ later) = (pos 0 ≤ℤ i) × AreNatural later
 AreNatural (other ∷ later) = AreNatural later
 
-both_true : (a b : Bool) → a ≡ true → b ≡ true → a && b ≡ true
+pub both_true : (a b : Bool) → a ≡ true → b ≡ true → a && b ≡ true
 both_true a b e h = ap (λ c. c && b) e ∙ h
 
 pub all_below : (l : ℕ) (p : Package) (vs : List Value) → AreNatural vs → All (λ i. i < 2 ^ l) (places_of vs) → list_all (λ i. is_below i (2 ^ l)) (positions (meanings p vs)) ≡ true

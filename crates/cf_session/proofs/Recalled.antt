@@ -340,7 +340,7 @@ name_there h law name f k =
     )
 
 -- positions of formed arguments aren't negative
-position_in : Meant → ℤ → ℤ
+abbrev position_in : Meant → ℤ → ℤ
 position_in (means.Position i) d = i
 position_in other d = d
 
@@ -490,10 +490,10 @@ steps_owned : (p : Package) → AreFinished p → (word : Word2) (f : Func) (lat
 steps_owned p fin word f [] r owned k = subst (OwnsFunction p) (sym k) owned
 steps_owned p fin word f (v ∷ later) r owned k = steps_owned p fin word k.0 later r (fin k.1.0 k.0 k.1.2).values.owned k.2
 
-quantified_owned : (p : Package) → AreFinished p → (word : Word2) (f : Func) (i : ℕ) (more : List ℕ) (r : Func) → AreQuantified p word f (i ∷ more) r → OwnsFunction p r
+quantified_owned : (p : Package) → AreFinished p → (word : Word2) (f : Func) (i : ℕ) (vars : List ℕ) (r : Func) → AreQuantified p word f (i ∷ vars) r → OwnsFunction p r
 quantified_owned p fin word f i [] r q =
     subst (OwnsFunction p) (sym q.2) (fin (task.Apply (of_two word) q.1.low q.1.high) q.0 q.1.joined_is).values.owned
-quantified_owned p fin word f i (j ∷ more) r q = quantified_owned p fin word q.0 j more r q.2
+quantified_owned p fin word f i (j ∷ vars) r q = quantified_owned p fin word q.0 j vars r q.2
 
 -- The first value of a fold is a function, so no fold of an atom is kept.
 first_is_atom : (h : Held) (a : Atom) (es : Arguments) (word : Word2) (args : List Value) (r : Func) → AreKept h (atom a es) args → IsCallKept h.pkg (Fold word) args r → ⊥
