@@ -1,6 +1,7 @@
 -- The arguments of a call one after the other.
-use Rattle.std.proofs.Common.{ℕ, zero, suc, ◌≡◌, ◌+◌, ◌≤◌, ◌&&◌, max, cond, false, List, [], ◌∷◌, ◌++◌, length, Option, Some, None, refl, ap, sym, subst, ◌∙◌, arith, append_assoc}
-use Rattle.std.specs.Prelude.{nat_le}
+use Rattle.std.proofs.Common.{ℕ, zero, suc, ◌≡◌, ◌+◌, ◌≤◌, max, false, List, [], ◌∷◌, ◌++◌, length, Option, Some, None, refl, ap, sym, subst, ◌∙◌, arith, append_assoc}
+use Rattle.std.specs.Option.{option_or}
+use Rattle.std.proofs.lemmas.List.{length-append}
 use Rattle.cf_model.specs.FlatFunctions.{FlatFunction, IsFlatFunction}
 use Rattle.cf_pkg.specs.declared.Func.{Func}
 use Rattle.cf_pkg.specs.Packages.{Package, Keeps, meaning}
@@ -9,7 +10,7 @@ use Rattle.cf_reference.specs.Heads.{signature}
 use Rattle.cf_reference.specs.declared.grammar.Kind.{Kind}
 use Rattle.cf_reference.specs.Trees.{Tree, Call, Arguments, none, more, atom, Atom, count, depth, depths, IsFormed, AreFormed}
 use Rattle.cf_reference.specs.States.{State}
-use Rattle.cf_reference.specs.Calls.{Part, flat, Meant, Function, Position, Number, is_nested, call, call_refusal}
+use Rattle.cf_reference.specs.Calls.{Part, flat, Meant, Function, Position, Number, call, call_refusal}
 use Rattle.cf_reference.specs.Expressions.{part, meant, meant_atom, walk, walks, walk_atom}
 use Rattle.cf_reference.specs.Failures.{failure, first_failure, fold_step, over, over_arguments}
 use Rattle.cf_reference.specs.Gives.{Gives, GivesTree}
@@ -20,27 +21,30 @@ use Rattle.cf_reference.proofs.WalkLaws.{walks-first, walks-later, walks-first-a
 use Rattle.cf_session.specs.declared.faults.StepFault.{StepFault}
 use Rattle.cf_session.specs.declared.values.Value.{Value}
 use Rattle.cf_session.specs.declared.values.Value.TheVariants as value
-use Rattle.cf_session.specs.Arguments.{from_place, IsOf, OfKinds}
+use Rattle.cf_session.specs.Arguments.{is_fold, from_place, IsOf, OfKinds}
 use Rattle.cf_session.specs.Sessions.{Held, state_of}
 use Rattle.cf_session.specs.Building.{Grows, Builds, IsFault, IsFaultOf}
 use Rattle.cf_session.proofs.Growth.{grown_on}
-use Rattle.cf_session.specs.Values.{meaning_of, meanings, IsOwned, AreOwned, IsOfKind, AreOf, Calls}
+use Rattle.cf_session.specs.Values.{meaning_of, meanings, IsOwned, AreOwned, IsOfKind, AreOf, steps_behind, call_parts, Calls}
+use Rattle.cf_session.proofs.HeadFacts.{more_behind, or_none, parts_are, none_yet}
 use Rattle.cf_session.proofs.Built.{fault_turned, or_nones, or_second, or_first}
 use Rattle.cf_session.proofs.Shapes.{of-formed}
 use Rattle.cf_session.proofs.WalkFacts.{from-end, append-none}
 
--- The arguments before a place have these values, and none of them overflows.
+-- The arguments before a place have these values, and nothing but their steps overflows.
 pub record Gathered (s : State) (head : Head) (all : Arguments) (p : Package) (args : List Value) (place : ℕ) : Type 0 where
   pub owned : AreOwned p args
   pub is_meant : meant s all ≡ meanings p args ++ meant s (from_place place all)
-  pub overflow : over_arguments s head [] all ≡ over_arguments s head (meanings p args) (from_place place all)
+  pub placed : length args ≡ place
+  pub overflow : over_arguments s head [] all
+      ≡ option_or (first_failure (steps_behind head [] (meanings p args))) (over_arguments s head (meanings p args) (from_place place all))
   pub walked : walks s (from_place place all) ≡ None
   pub formed : AreFormed head place (from_place place all)
 
 pub gathered-none : (s : State) (head : Head) (all : Arguments) (p : Package) (args : List Value) → args ≡ [] → walks s all ≡ None → AreFormed head 0 all
     → Gathered s head all p args 0
 gathered-none s head all p args e walked formed =
-    subst (λ (l : List Value). Gathered s head all p l 0) (sym e) (record { owned = tt; is_meant = refl; overflow = refl; walked = walked; formed = formed })
+    subst (λ (l : List Value). Gathered s head all p l 0) (sym e) (record { owned = tt; is_meant = refl; placed = refl; overflow = refl; walked = walked; formed = formed })
 
 -- the same values under another name
 pub gathered-as : (s : State) (head : Head) (all : Arguments) (p : Package) (args others : List Value) (place : ℕ) → others ≡ args → Gathered s head all p args place
@@ -69,7 +73,8 @@ gathered-kept s head all p q args place k h =
     record {
       owned = kept.0;
       is_meant = h.is_meant ∙ ap (λ l. l ++ meant s (from_place place all)) (sym kept.1);
-      overflow = h.overflow ∙ ap (λ l. over_arguments s head l (from_place place all)) (sym kept.1);
+      placed = h.placed;
+      overflow = h.overflow ∙ ap (λ l. option_or (first_failure (steps_behind head [] l)) (over_arguments s head l (from_place place all))) (sym kept.1);
       walked = h.walked;
       formed = h.formed;
     }
@@ -83,13 +88,13 @@ owned-push : (p : Package) (args : List Value) (v : Value) → AreOwned p args �
 owned-push p [] v h k = (k, tt)
 owned-push p (w ∷ args) v h k = (h.0, owned-push p args v h.1 k)
 
-pub unnested : (head : Head) (done : List Meant) → is_nested head ≡ false → first_failure (fold_step head done) ≡ None
-unnested head done e =
-    ap (λ b. first_failure (cond (b && nat_le 2 (length done)) (call head done ∷ []) [])) e
+long-push : (args : List Value) (v : Value) (place : ℕ) → length args ≡ place → length (args ++ v ∷ []) ≡ suc place
+long-push args v place e = omega (arith, e, length-append args (v ∷ []))
 
 stepped : (s : State) (head : Head) (all : Arguments) (p : Package) (args now : List Value) (place : ℕ) (v : Value) → Gathered s head all p args place → now ≡ args ++ v ∷ [] → IsOwned p v
     → meant s (from_place place all) ≡ meaning_of p v ∷ meant s (from_place (suc place) all)
-    → over_arguments s head (meanings p args) (from_place place all) ≡ over_arguments s head (meanings p args ++ meaning_of p v ∷ []) (from_place (suc place) all)
+    → over_arguments s head (meanings p args) (from_place place all)
+    ≡ option_or (first_failure (fold_step head (meanings p args))) (over_arguments s head (meanings p args ++ meaning_of p v ∷ []) (from_place (suc place) all))
     → walks s (from_place (suc place) all) ≡ None → AreFormed head (suc place) (from_place (suc place) all) → Gathered s head all p now (place + 1)
 stepped s head all p args now place v h pushed owned is over walked formed =
     let one : suc place ≡ place + 1 = omega arith in
@@ -99,33 +104,34 @@ stepped s head all p args now place v h pushed owned is over walked formed =
       owned = owned-push p args v h.owned owned;
       is_meant = h.is_meant ∙ ap (λ l. meanings p args ++ l) is ∙ sym (append_assoc (meanings p args) (meaning_of p v ∷ []) (meant s (from_place (suc place) all)))
           ∙ ap (λ l. l ++ meant s (from_place (suc place) all)) (sym grown);
-      overflow = h.overflow ∙ over ∙ ap (λ l. over_arguments s head l (from_place (suc place) all)) (sym grown);
+      placed = long-push args v place h.placed;
+      overflow = h.overflow ∙ ap (option_or (first_failure (steps_behind head [] (meanings p args)))) over
+          ∙ more_behind head (meanings p args) (meaning_of p v) (over_arguments s head (meanings p args ++ meaning_of p v ∷ []) (from_place (suc place) all))
+          ∙ ap (λ l. option_or (first_failure (steps_behind head [] l)) (over_arguments s head l (from_place (suc place) all))) (sym grown);
       walked = walked;
       formed = formed;
     }))
 
-pub gathered-function : (s : State) (head : Head) (all : Arguments) (p : Package) (args now : List Value) (place : ℕ) (e : Tree) (f : Func) → is_nested head ≡ false → Gathered s head all p args place
+pub gathered-function : (s : State) (head : Head) (all : Arguments) (p : Package) (args now : List Value) (place : ℕ) (e : Tree) (f : Func) → Gathered s head all p args place
     → from_place place all ≡ more e (from_place (suc place) all) → Builds s e p f → now ≡ args ++ value.Function f ∷ [] → Gathered s head all p now (place + 1)
-gathered-function s head all p args now place e f one h is b pushed =
+gathered-function s head all p args now place e f h is b pushed =
     let later = from_place (suc place) all in
     let same : flat (part s e) ≡ meaning p f = sym (gives-let s e (meaning p f) b.gives) in
     stepped s head all p args now place (value.Function f) h pushed (b.owned, b.gives.flat)
     (ap (meant s) is ∙ meant-more s e later ∙ ap (λ g. Function g ∷ meant s later) same)
     (ap (over_arguments s head (meanings p args)) is ∙ over_arguments-more s head (meanings p args) e later
-    ∙ or_second (first_failure (fold_step head (meanings p args))) _ _ (unnested head (meanings p args) one)
-    (or_second (over s e) _ _ b.fits (ap (λ g. over_arguments s head (meanings p args ++ Function g ∷ []) later) same)))
+    ∙ ap (option_or (first_failure (fold_step head (meanings p args)))) (or_second (over s e) _ _ b.fits (ap (λ g. over_arguments s head (meanings p args ++ Function g ∷ []) later) same)))
     (walks-later s e later (sym (ap (walks s) is) ∙ h.walked))
     (subst (AreFormed head place) is h.formed).2
 
-pub gathered-atom : (s : State) (head : Head) (all : Arguments) (p : Package) (args now : List Value) (place : ℕ) (a : Atom) (v : Value) → is_nested head ≡ false → Gathered s head all p args place
+pub gathered-atom : (s : State) (head : Head) (all : Arguments) (p : Package) (args now : List Value) (place : ℕ) (a : Atom) (v : Value) → Gathered s head all p args place
     → from_place place all ≡ atom a (from_place (suc place) all) → IsOwned p v → meant_atom s a ≡ meaning_of p v → now ≡ args ++ v ∷ [] → Gathered s head all p now (place + 1)
-gathered-atom s head all p args now place a v one h is owned same pushed =
+gathered-atom s head all p args now place a v h is owned same pushed =
     let later = from_place (suc place) all in
     stepped s head all p args now place v h pushed owned
     (ap (meant s) is ∙ meant-atom s a later ∙ ap (λ m. m ∷ meant s later) same)
     (ap (over_arguments s head (meanings p args)) is ∙ over_arguments-atom s head (meanings p args) a later
-    ∙ or_second (first_failure (fold_step head (meanings p args))) _ _ (unnested head (meanings p args) one)
-    (ap (λ m. over_arguments s head (meanings p args ++ m ∷ []) later) same))
+    ∙ ap (λ m. option_or (first_failure (fold_step head (meanings p args))) (over_arguments s head (meanings p args ++ m ∷ []) later)) same)
     (walks-later-atom s a later (sym (ap (walks s) is) ∙ h.walked))
     (subst (AreFormed head place) is h.formed).1
 
@@ -160,22 +166,31 @@ next-shallow all place e is = by all place (from_place (suc place) all) is
     by (atom a es) zero later h = cc
     by (atom a es) (suc i) later h = by es i later h
 
+long-meanings : (p : Package) (args : List Value) → length (meanings p args) ≡ length args
+long-meanings p [] = refl
+long-meanings p (v ∷ args) = ap suc (long-meanings p args)
+
 -- the next argument overflows
-pub next-fails : (s : State) (head : Head) (all : Arguments) (p : Package) (args : List Value) (place : ℕ) (e : Tree) → is_nested head ≡ false → Gathered s head all p args place
+pub next-fails : (s : State) (head : Head) (all : Arguments) (p : Package) (args : List Value) (place : ℕ) (e : Tree) → is_fold head ≡ false → Gathered s head all p args place
     → from_place place all ≡ more e (from_place (suc place) all) → (fault : StepFault) → IsFaultOf s e fault → IsFaultOf s (Call head all) fault
 next-fails s head all p args place e one h is =
+    let none = none_yet head one (meanings p args) place (long-meanings p args ∙ h.placed) (subst (AreFormed head place) is h.formed).0 in
     fault_turned (λ bits. over s e ≡ Some bits) (λ bits. over s (Call head all) ≡ Some bits)
     (λ bits o. over-Call s head all ∙ or_first (over_arguments s head [] all) (failure (part s (Call head all))) bits
-    (h.overflow ∙ ap (over_arguments s head (meanings p args)) is ∙ over_arguments-more s head (meanings p args) e (from_place (suc place) all)
-    ∙ or_second (first_failure (fold_step head (meanings p args))) _ (Some bits) (unnested head (meanings p args) one) (or_first (over s e) _ bits o)))
+    (h.overflow
+    ∙ or_second (first_failure (steps_behind head [] (meanings p args))) _ (Some bits) none.0
+    (ap (over_arguments s head (meanings p args)) is ∙ over_arguments-more s head (meanings p args) e (from_place (suc place) all)
+    ∙ or_second (first_failure (fold_step head (meanings p args))) _ (Some bits) none.1 (or_first (over s e) _ bits o))))
 
 -- no argument is left
 pub gathered-all : (s : State) (head : Head) (all : Arguments) (p : Package) (args : List Value) (place : ℕ) → Gathered s head all p args place → place ≡ count all
-    → (meant s all ≡ meanings p args) × (over_arguments s head [] all ≡ None)
+    → (meant s all ≡ meanings p args) × (over_arguments s head [] all ≡ first_failure (steps_behind head [] (meanings p args)))
 gathered-all s head all p args place h end =
     let past = ap (λ k. from_place k all) end ∙ from-end all in (
       h.is_meant ∙ ap (λ es. meanings p args ++ meant s es) past ∙ ap (λ l. meanings p args ++ l) (meant-none s) ∙ append-none (meanings p args),
-      h.overflow ∙ ap (over_arguments s head (meanings p args)) past ∙ over_arguments-none s head (meanings p args),
+      h.overflow
+      ∙ ap (option_or (first_failure (steps_behind head [] (meanings p args)))) (ap (over_arguments s head (meanings p args)) past ∙ over_arguments-none s head (meanings p args))
+      ∙ or_none (first_failure (steps_behind head [] (meanings p args))),
     )
 
 of_kind : (p : Package) (kind : Kind) (v : Value) → IsOf kind (meaning_of p v) → IsOfKind kind v
@@ -204,7 +219,7 @@ of_kind p kind (value.Number n) h = by kind h
     by Kind.Number h = tt
     by Kind.Bit h = tt
 
-of_kinds : (p : Package) (kinds : List Kind) (further : Option Kind) (args : List Value) → OfKinds kinds further (meanings p args) → AreOf kinds further args
+pub of_kinds : (p : Package) (kinds : List Kind) (further : Option Kind) (args : List Value) → OfKinds kinds further (meanings p args) → AreOf kinds further args
 of_kinds p [] None [] h = tt
 of_kinds p [] None (v ∷ args) h = absurd h
 of_kinds p [] (Some kind) [] h = tt
@@ -236,29 +251,32 @@ call-built s head all p q args place f h end c =
       owned = c.owned;
       gives = gives;
       fits = over-Call s head all
-          ∙ or_nones (over_arguments s head [] all) (failure (part s (Call head all))) (gathered-all s head all p args place h end).1 (gives-never (part s (Call head all)) (meaning q f) gives);
+          ∙ or_nones (over_arguments s head [] all) (failure (part s (Call head all))) ((gathered-all s head all p args place h end).1 ∙ c.fits) (gives-never (part s (Call head all)) (meaning q f) gives);
     }
 
 pub call-fails : (s : State) (head : Head) (all : Arguments) (p : Package) (args : List Value) (place : ℕ) → Gathered s head all p args place → place ≡ count all
-    → (fault : StepFault) → IsFault (λ bits. failure (call head (meanings p args)) ≡ Some bits) fault → IsFaultOf s (Call head all) fault
+    → (fault : StepFault) → IsFault (λ bits. first_failure (call_parts head (meanings p args)) ≡ Some bits) fault → IsFaultOf s (Call head all) fault
 call-fails s head all p args place h end =
-    fault_turned (λ bits. failure (call head (meanings p args)) ≡ Some bits) (λ bits. over s (Call head all) ≡ Some bits)
-    (λ bits o. over-Call s head all ∙ or_second (over_arguments s head [] all) (failure (part s (Call head all))) (Some bits) (gathered-all s head all p args place h end).1 (ap failure (part-is s head all p args place h end) ∙ o))
+    fault_turned (λ bits. first_failure (call_parts head (meanings p args)) ≡ Some bits) (λ bits. over s (Call head all) ≡ Some bits)
+    (λ bits o. over-Call s head all
+    ∙ ap (λ x. option_or x (failure (part s (Call head all)))) (gathered-all s head all p args place h end).1
+    ∙ ap (λ (x : Part). option_or (first_failure (steps_behind head [] (meanings p args))) (failure x)) (part-is s head all p args place h end)
+    ∙ sym (parts_are head (meanings p args)) ∙ o)
 
 -- A session after one more argument.
-pub next-one : (s : State) (head : Head) (all : Arguments) (start before after now : Held) (args pushed : List Value) (place : ℕ) (e : Tree) (f : Func) (v : Value) → is_nested head ≡ false
+pub next-one : (s : State) (head : Head) (all : Arguments) (start before after now : Held) (args pushed : List Value) (place : ℕ) (e : Tree) (f : Func) (v : Value)
     → Gathered s head all before.pkg args place → from_place place all ≡ more e (from_place (suc place) all) → state_of before ≡ s → Grows start before → Grows before after
     → Builds (state_of before) e after.pkg f → now ≡ after → pushed ≡ args ++ v ∷ [] → v ≡ value.Function f → Gathered s head all now.pkg pushed (place + 1) × Grows start now
-next-one s head all start before after now args pushed place e f v one h is same grown grows b here push it =
+next-one s head all start before after now args pushed place e f v h is same grown grows b here push it =
     subst (λ (x : Held). Gathered s head all x.pkg pushed (place + 1) × Grows start x) (sym here) (
-      gathered-function s head all after.pkg args pushed place e f one (gathered-kept s head all before.pkg after.pkg args place grows.functions h) is
+      gathered-function s head all after.pkg args pushed place e f (gathered-kept s head all before.pkg after.pkg args place grows.functions h) is
           (subst (λ (u : State). Builds u e after.pkg f) same b) (push ∙ ap (λ x. args ++ x ∷ []) it),
       grown_on start before after grown grows,
     )
 
-pub next-atom : (s : State) (head : Head) (all : Arguments) (start before now : Held) (args pushed : List Value) (place : ℕ) (a : Atom) (v u : Value) → is_nested head ≡ false
+pub next-atom : (s : State) (head : Head) (all : Arguments) (start before now : Held) (args pushed : List Value) (place : ℕ) (a : Atom) (v u : Value)
     → Gathered s head all before.pkg args place → from_place place all ≡ atom a (from_place (suc place) all) → IsOwned before.pkg u → meant_atom s a ≡ meaning_of before.pkg u → Grows start before
     → now ≡ before → pushed ≡ args ++ v ∷ [] → v ≡ u → Gathered s head all now.pkg pushed (place + 1) × Grows start now
-next-atom s head all start before now args pushed place a v u one h is owned means grown here push it =
+next-atom s head all start before now args pushed place a v u h is owned means grown here push it =
     subst (λ (x : Held). Gathered s head all x.pkg pushed (place + 1) × Grows start x) (sym here)
-    (gathered-atom s head all before.pkg args pushed place a u one h is owned means (push ∙ ap (λ x. args ++ x ∷ []) it), grown)
+    (gathered-atom s head all before.pkg args pushed place a u h is owned means (push ∙ ap (λ x. args ++ x ∷ []) it), grown)

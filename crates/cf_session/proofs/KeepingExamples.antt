@@ -1,13 +1,13 @@
 -- Expressions that are kept, and some that aren't.
-use Rattle.std.proofs.Common.{ℕ, ℤ, pos, List, [], ◌∷◌, refl, arith}
+use Rattle.std.proofs.Common.{ℕ, ℤ, pos, true, false, List, [], ◌∷◌, refl, arith}
 use Rattle.cf_model.specs.declared.terms.Word1.TheVariants.{Not}
-use Rattle.cf_model.specs.declared.terms.Word2.TheVariants.{Minus, And}
+use Rattle.cf_model.specs.declared.terms.Word2.TheVariants.{Minus, And, Or}
 use Rattle.cf_ops.specs.Operations.{of_one, of_two}
 use Rattle.cf_pkg.specs.declared.Func.{Func}
 use Rattle.cf_pkg.specs.Tasks as task
 use Rattle.cf_pkg.specs.Packages.{IsRemembered}
-use Rattle.cf_reference.specs.declared.grammar.Head.TheVariants.{Const, One, Fold}
-use Rattle.cf_reference.specs.Trees.{Num, Named, Call, none, more, atom, Number}
+use Rattle.cf_reference.specs.declared.grammar.Head.TheVariants.{Const, One, Fold, Restrict, Exists}
+use Rattle.cf_reference.specs.Trees.{Num, Named, Call, none, more, atom, Number, Position}
 use Rattle.cf_session.specs.declared.values.Value.TheVariants as value
 use Rattle.cf_session.specs.Sessions.{Held, nothing_held, StandsFor}
 use Rattle.cf_session.specs.Keeping.{IsKept}
@@ -40,6 +40,21 @@ and_kept h first second third f g k step r a b c i j = (
 -- const(2, 5), whatever the session's level is
 const_kept : (h : Held) (r : Func) → IsRemembered h.pkg (task.Const 2 (pos 5)) r → IsKept h (Call Const (atom (Number (pos 2)) (atom (Number (pos 5)) none))) r
 const_kept h r j = (value.Number (pos 2) ∷ value.Number (pos 5) ∷ [], (refl, (refl, tt)), (task.Const 2 (pos 5), refl, j))
+
+-- restrict(A, @1, 0)
+restrict_kept : (h : Held) (name : List ℕ) (f r : Func) → StandsFor h name f → IsRemembered h.pkg (task.Restrict f 1 false) r
+    → IsKept h (Call Restrict (more (Named name) (atom (Position (pos 1)) (atom (Number (pos 0)) none)))) r
+restrict_kept h name f r a j =
+    (value.Function f ∷ value.Position (pos 1) ∷ value.Number (pos 0) ∷ [], (a, (record { walked = refl; is_it = refl }, (refl, tt))), (task.Restrict f 1 false, refl, j))
+
+-- exists(A, @0): both restrictions, and the `or` of their functions
+exists_kept : (h : Held) (name : List ℕ) (f low high r : Func) → StandsFor h name f → IsRemembered h.pkg (task.Restrict f 0 false) low → IsRemembered h.pkg (task.Restrict f 0 true) high
+    → IsRemembered h.pkg (task.Apply (of_two Or) low high) r → IsKept h (Call Exists (more (Named name) (atom (Position (pos 0)) none))) r
+exists_kept h name f low high r a i j k = (
+  value.Function f ∷ value.Position (pos 0) ∷ [],
+  (a, (record { walked = refl; is_it = refl }, tt)),
+  (r, record { low = low; high = high; low_is = i; high_is = j; joined_is = k }, refl),
+)
 
 -- In a new session no number is kept.
 number_is_not : (n : ℤ) (f : Func) → IsKept nothing_held (Num n) f → ⊥

@@ -1,7 +1,6 @@
 -- Kept expressions stay kept as a session grows, and what a kept call is answered.
-use Rattle.std.proofs.Common.{ℕ, ℤ, ◌≡◌, List, [], ◌∷◌, Some, Result, Ok, Err, IfOk, refl, sym, ap, subst, ◌∙◌}
+use Rattle.std.proofs.Common.{ℕ, ℤ, ◌≡◌, true, false, List, [], ◌∷◌, Some, Result, Ok, Err, IfOk, refl, sym, ap, subst, ◌∙◌}
 use Rattle.std.specs.Prelude.{nat_abs, is_some}
-use Rattle.std.proofs.lemmas.Option.{same_Some}
 use Rattle.std.specs.Result.{IsErrAnd}
 use Rattle.std.proofs.lemmas.Result.{IfOk-weaker}
 use Rattle.cf_pkg.specs.declared.Func.{Func}
@@ -10,10 +9,9 @@ use Rattle.cf_pkg.specs.Tasks as task
 use Rattle.cf_pkg.specs.Packages.{Package, IsRemembered, Keeps}
 use Rattle.cf_pkg.specs.Jobs.{AnswersFinished}
 use Rattle.cf_reference.specs.declared.grammar.Head.{Head}
-use Rattle.cf_reference.specs.declared.grammar.Head.TheVariants.{Const, One, Fold, Ite}
+use Rattle.cf_reference.specs.declared.grammar.Head.TheVariants.{Const, One, Fold, Ite, Restrict, Exists, Forall, SumOut, Compose, AndExists}
 use Rattle.cf_reference.specs.Trees.{Tree, Num, At, Named, Call, Arguments, none, more, atom, Atom}
 use Rattle.cf_reference.specs.Calls as means
-use Rattle.cf_reference.specs.Calls.{is_nested}
 use Rattle.cf_reference.specs.States.{State, level_in, named}
 use Rattle.cf_reference.specs.Expressions.{meant_atom, walk}
 use Rattle.cf_reference.specs.Reasons.{NoLevel, unless}
@@ -27,6 +25,13 @@ use Rattle.cf_session.specs.declared.values.Value.TheVariants.{Function, Positio
 use Rattle.cf_session.specs.Sessions.{Held, state_of, StandsFor, IsOneWith}
 use Rattle.cf_session.specs.Building.{Grows}
 use Rattle.cf_session.proofs.Growth.{with_package}
+use Rattle.cf_session.specs.Walks.{HasPosition}
+use Rattle.cf_session.specs.Values.{places_of}
+use Rattle.cf_restrict.specs.Quantified.{IsComposed, IsJoined}
+use Rattle.cf_restrict.proofs.Doing.{all_quantified_kept}
+use Rattle.cf_model.specs.declared.terms.Word2.TheVariants.{And, Or, Plus}
+use Rattle.cf_ops.specs.Operations.{of_two, of_three}
+use Rattle.cf_session.proofs.KeptShapes.{task_kept, kept_task, exists_shape, forall_shape, sum_shape, compose_shape, joined_shape}
 use Rattle.cf_session.specs.Keeping.{call_task, IsJobKept, AreStepsKept, IsCallKept, IsKept, AreKept, AnswersJob, AnswersCall, Repeats, AnswersKept, IsRepeat}
 
 -- A session that grew and has the package that it had is the session that it was.
@@ -38,8 +43,44 @@ same_session h k g e =
     ∙ ap (λ f. record h { functions = f }) g.names.functions
 
 -- jobs as a package grows
+composed_on : (p q : Package) → Keeps p q → (f : Func) (i : ℕ) (g r : Func) → IsComposed p f i g r → IsComposed q f i g r
+composed_on p q k f i g r h = record {
+  high = h.high;
+  low = h.low;
+  high_is = k.jobs (task.Restrict f i true) h.high h.high_is;
+  low_is = k.jobs (task.Restrict f i false) h.low h.low_is;
+  chosen_is = k.jobs (task.Ternary of_three g h.high h.low) r h.chosen_is;
+}
+
+joined_on : (p q : Package) → Keeps p q → (f g : Func) (vars : List ℕ) (r : Func) → IsJoined p f g vars r → IsJoined q f g vars r
+joined_on p q k f g vars r h = record {
+  product = h.product;
+  product_is = k.jobs (task.Apply (of_two And) f g) h.product h.product_is;
+  quantified = all_quantified_kept p q k Or h.product vars r h.quantified;
+}
+
 pub job_on : (p q : Package) → Keeps p q → (head : Head) (args : List Value) (r : Func) → IsJobKept p head args r → IsJobKept q head args r
-job_on p q k head args r h = (h.0, h.1, k.jobs h.0 r h.2)
+job_on p q k Const args r h = (h.0, h.1, k.jobs h.0 r h.2)
+job_on p q k (One word) args r h = (h.0, h.1, k.jobs h.0 r h.2)
+job_on p q k (Fold word) args r h = (h.0, h.1, k.jobs h.0 r h.2)
+job_on p q k Ite args r h = (h.0, h.1, k.jobs h.0 r h.2)
+job_on p q k Restrict args r h = (h.0, h.1, k.jobs h.0 r h.2)
+job_on p q k Exists args r h =
+    let s = exists_shape p args r h in
+    subst (λ (l : List Value). IsJobKept q Exists l r) (sym s.0.are) (all_quantified_kept p q k Or s.0.f (nat_abs s.0.i ∷ places_of s.0.vars) r s.1)
+job_on p q k Forall args r h =
+    let s = forall_shape p args r h in
+    subst (λ (l : List Value). IsJobKept q Forall l r) (sym s.0.are) (all_quantified_kept p q k And s.0.f (nat_abs s.0.i ∷ places_of s.0.vars) r s.1)
+job_on p q k SumOut args r h =
+    let s = sum_shape p args r h in
+    subst (λ (l : List Value). IsJobKept q SumOut l r) (sym s.0.are) (all_quantified_kept p q k Plus s.0.f (nat_abs s.0.i ∷ places_of s.0.vars) r s.1)
+job_on p q k Compose args r h =
+    let s = compose_shape p args r h in
+    subst (λ (l : List Value). IsJobKept q Compose l r) (sym s.3) (composed_on p q k s.0 (nat_abs s.1) s.2 r s.4)
+job_on p q k AndExists args r h =
+    let s = joined_shape p args r h in
+    subst (λ (l : List Value). IsJobKept q AndExists l r) (sym (s.2 ∙ ap (λ l. Function s.0 ∷ l) s.3.are))
+    (joined_on p q k s.0 s.3.f (nat_abs s.3.i ∷ places_of s.3.vars) r s.4)
 
 pub steps_on : (p q : Package) → Keeps p q → (head : Head) (f : Func) (args : List Value) (r : Func) → AreStepsKept p head f args r → AreStepsKept q head f args r
 steps_on p q k head f [] r h = h
@@ -53,6 +94,12 @@ call_on p q k (Fold word) (Function f ∷ later) r h = steps_on p q k (Fold word
 call_on p q k (Fold word) (Position i ∷ later) r h = absurd h
 call_on p q k (Fold word) (Number n ∷ later) r h = absurd h
 call_on p q k Ite args r h = job_on p q k Ite args r h
+call_on p q k Restrict args r h = job_on p q k Restrict args r h
+call_on p q k Exists args r h = job_on p q k Exists args r h
+call_on p q k Forall args r h = job_on p q k Forall args r h
+call_on p q k SumOut args r h = job_on p q k SumOut args r h
+call_on p q k Compose args r h = job_on p q k Compose args r h
+call_on p q k AndExists args r h = job_on p q k AndExists args r h
 
 -- expressions
 stands_on : (h k : Held) → Grows h k → (name : List ℕ) (f : Func) → StandsFor h name f → StandsFor k name f
@@ -78,7 +125,7 @@ mutual
   all_on (more e es) h k g (Number n ∷ args) i = absurd i
   all_on (atom a es) h k g [] i = absurd i
   all_on (atom a es) h k g (Function f ∷ args) i = absurd i
-  all_on (atom a es) h k g (Position p ∷ args) i = (ap (λ (u : State). meant_atom u a) g.state ∙ i.0, all_on es h k g args i.1)
+  all_on (atom a es) h k g (Position p ∷ args) i = (subst (λ (u : State). HasPosition u a p) (sym g.state) i.0, all_on es h k g args i.1)
   all_on (atom a es) h k g (Number n ∷ args) i = (ap (λ (u : State). meant_atom u a) g.state ∙ i.0, all_on es h k g args i.1)
 
 -- The first of the values is the function of the first argument.
@@ -110,17 +157,17 @@ number_of (means.Function f) d = d
 number_of (means.Position i) d = d
 number_of (means.Number n) d = n
 
-pub position_value : (s : State) (a : Atom) (i : ℤ) → meant_atom s a ≡ means.Position i → IsAtomValue s a (Position i)
+pub position_value : (s : State) (a : Atom) (i : ℤ) → HasPosition s a i → IsAtomValue s a (Position i)
 position_value s a i m = record {
-  there = λ h es later e k. (ap (λ (u : State). meant_atom u a) e ∙ m, k);
-  alone = λ h es args e k. by h es args k (sym (ap (λ (u : State). meant_atom u a) e ∙ m));
+  there = λ h es later e k. (subst (λ (u : State). HasPosition u a i) (sym e) m, k);
+  alone = λ h es args e k. by h es args k (sym (ap (λ (u : State). meant_atom u a) e ∙ m.is_it));
 }
   where
     by : (h : Held) (es : Arguments) (args : List Value) → AreKept h (atom a es) args → means.Position i ≡ meant_atom (state_of h) a
         → (later : List Value) × (args ≡ Position i ∷ later) × AreKept h es later
     by h es [] k e = absurd k
     by h es (Function f ∷ later) k e = absurd k
-    by h es (Position j ∷ later) k e = (later, ap (λ x. Position x ∷ later) (sym (ap (λ x. position_of x j) (e ∙ k.0))), k.1)
+    by h es (Position j ∷ later) k e = (later, ap (λ x. Position x ∷ later) (sym (ap (λ x. position_of x j) (e ∙ k.0.is_it))), k.1)
     by h es (Number n ∷ later) k e = cc
 
 pub number_value : (s : State) (a : Atom) (n : ℤ) → meant_atom s a ≡ means.Number n → IsAtomValue s a (Number n)
@@ -136,18 +183,21 @@ number_value s a n m = record {
     by h es (Position j ∷ later) k e = cc
     by h es (Number m ∷ later) k e = (later, ap (λ x. Number x ∷ later) (sym (ap (λ x. number_of x m) (e ∙ k.0))), k.1)
 
+-- the answer of a package that was as it is
+pub repeats_told : (h k : Held) (f : Func) (result : Result Func StepFault) → (result ≡ Ok f) × (k.pkg ≡ h.pkg) → Grows h k → Repeats h k f result
+repeats_told h k f result told g = subst (λ (x : Result Func StepFault). Repeats h k f x) (sym told.0) (refl, same_session h k g told.1)
+
 -- A job that the package answered is the one that the head has on the values.
 pub job_kept : (p : Package) (head one : Head) (items others : List Value) (t u : Task) (r : Func) → head ≡ one → items ≡ others → call_task one others ≡ Some t → u ≡ t
     → IsRemembered p u r → IsJobKept p head items r
 job_kept p head one items others t u r is same task e h =
-    (t, ap (λ d. call_task d items) is ∙ ap (call_task one) same ∙ task, subst (λ x. IsRemembered p x r) e h)
+    kept_task p head items t r (ap (λ d. call_task d items) is ∙ ap (call_task one) same ∙ task) (subst (λ x. IsRemembered p x r) e h)
 
 pub job_answered : (h k : Held) (head one : Head) (items others : List Value) (t u : Task) (result : Result Func StepFault) → head ≡ one → items ≡ others
     → call_task one others ≡ Some t → u ≡ t → Grows h k → AnswersJob h k u result → AnswersCall h k head items result
 job_answered h k head one items others t u result is same task e g answers f kept =
-    let its : t ≡ kept.0 = same_Some t kept.0 (sym (ap (λ d. call_task d items) is ∙ ap (call_task one) same ∙ task) ∙ kept.1) in
-    let told = answers f (subst (λ x. IsRemembered h.pkg x f) (sym (e ∙ its)) kept.2) in
-    (told.0, same_session h k g told.1)
+    let its = task_kept h.pkg head items t f (ap (λ d. call_task d items) is ∙ ap (call_task one) same ∙ task) kept in
+    repeats_told h k f result (answers f (subst (λ x. IsRemembered h.pkg x f) (sym e) its)) g
 
 -- what an answer on the way says of the whole
 pub repeats_from : (start before now : Held) (f g : Func) (fault : StepFault) → before ≡ start → Repeats before now g (Err fault) → Repeats start now f (Err fault)

@@ -1,21 +1,22 @@
 -- What is kept of a call, argument by argument.
 use Rattle.std.proofs.Common.{ℕ, suc, ◌≡◌, ◌+◌, false, true, List, [], ◌∷◌, ◌++◌, Result, Ok, Err, refl, sym, ap, subst, ◌∙◌, arith, append_assoc}
 use Rattle.std.proofs.lemmas.Bool.{false≢true}
+use Rattle.cf_model.specs.declared.terms.Word2.{Word2}
 use Rattle.cf_pkg.specs.declared.Func.{Func}
 use Rattle.cf_reference.specs.declared.grammar.Head.{Head}
-use Rattle.cf_reference.specs.declared.grammar.Head.TheVariants.{Const, One, Fold, Ite}
+use Rattle.cf_reference.specs.declared.grammar.Head.TheVariants.{Const, One, Fold, Ite, Restrict, Exists, Forall, SumOut, Compose, AndExists}
 use Rattle.cf_reference.specs.Trees.{Tree, Call, Arguments, none, more, atom, Atom, count}
-use Rattle.cf_reference.specs.Calls.{is_nested}
+use Rattle.cf_session.proofs.HeadFacts.{fold_of}
 use Rattle.cf_session.specs.declared.faults.StepFault.{StepFault}
 use Rattle.cf_session.specs.declared.values.Value.{Value}
 use Rattle.cf_session.specs.declared.values.Value.TheVariants.{Function}
-use Rattle.cf_session.specs.Arguments.{from_place}
+use Rattle.cf_session.specs.Arguments.{is_fold, from_place}
 use Rattle.cf_session.specs.Sessions.{Held, state_of}
 use Rattle.cf_session.specs.Building.{Grows}
 use Rattle.cf_session.specs.Keeping.{IsJobKept, AreStepsKept, IsCallKept, IsKept, AreKept, AnswersCall, Repeats, AnswersKept}
 use Rattle.cf_session.proofs.Growth.{grown_same, grown_on}
 use Rattle.cf_session.proofs.WalkFacts.{from-end, append-none}
-use Rattle.cf_session.proofs.Kept.{kept_on, job_on, first_kept, none_kept, IsAtomValue, repeats_from, same_Ok, ok-err}
+use Rattle.cf_session.proofs.Kept.{kept_on, job_on, first_kept, none_kept, IsAtomValue, repeats_from}
 
 -- values for the arguments from a place on, behind those for the arguments before
 abbrev pub Others : Held → Head → Arguments → List Value → Func → Type 0
@@ -27,20 +28,32 @@ pub record KeptFront (start now : Held) (head : Head) (all : Arguments) (args : 
   pub front : (h : Held) → Grows now h → (rest : List Value) → AreKept h (from_place place all) rest → AreKept h all (args ++ rest)
   pub again : (r : Func) → IsKept start (Call head all) r → (now ≡ start) × Others start head (from_place place all) args r
 
-one_job : (h : Held) (head : Head) (all : Arguments) (r : Func) → is_nested head ≡ false → IsKept h (Call head all) r → Others h head all [] r
+one_job : (h : Held) (head : Head) (all : Arguments) (r : Func) → is_fold head ≡ false → IsKept h (Call head all) r → Others h head all [] r
 one_job h Const all r n k = k
 one_job h (One word) all r n k = k
 one_job h (Fold word) all r n k = absurd (false≢true (sym n))
 one_job h Ite all r n k = k
+one_job h Restrict all r n k = k
+one_job h Exists all r n k = k
+one_job h Forall all r n k = k
+one_job h SumOut all r n k = k
+one_job h Compose all r n k = k
+one_job h AndExists all r n k = k
 
-one_call : (h : Held) (head : Head) (all : Arguments) (args : List Value) (r : Func) → is_nested head ≡ false → AreKept h all args → IsJobKept h.pkg head args r
+one_call : (h : Held) (head : Head) (all : Arguments) (args : List Value) (r : Func) → is_fold head ≡ false → AreKept h all args → IsJobKept h.pkg head args r
     → IsKept h (Call head all) r
 one_call h Const all args r n k j = (args, k, j)
 one_call h (One word) all args r n k j = (args, k, j)
 one_call h (Fold word) all args r n k j = absurd (false≢true (sym n))
 one_call h Ite all args r n k j = (args, k, j)
+one_call h Restrict all args r n k j = (args, k, j)
+one_call h Exists all args r n k j = (args, k, j)
+one_call h Forall all args r n k j = (args, k, j)
+one_call h SumOut all args r n k j = (args, k, j)
+one_call h Compose all args r n k j = (args, k, j)
+one_call h AndExists all args r n k j = (args, k, j)
 
-pub front_none : (start : Held) (head : Head) (all : Arguments) (args : List Value) → args ≡ [] → is_nested head ≡ false → KeptFront start start head all args 0
+pub front_none : (start : Held) (head : Head) (all : Arguments) (args : List Value) → args ≡ [] → is_fold head ≡ false → KeptFront start start head all args 0
 front_none start head all args e n =
     subst (λ (l : List Value). KeptFront start start head all l 0) (sym e)
     (record {
@@ -109,16 +122,15 @@ front_fails start before now head all args place e fault front is again r k =
     repeats_from start before now r split.0 fault was.0 (again split.0 (subst (λ h. IsKept h e split.0) (sym was.0) split.3))
 
 -- no argument is left
-pub front_call : (start before now : Held) (head : Head) (all : Arguments) (args : List Value) (place : ℕ) (f : Func) → is_nested head ≡ false → KeptFront start before head all args place
+pub front_call : (start before now : Held) (head : Head) (all : Arguments) (args : List Value) (place : ℕ) (f : Func) → is_fold head ≡ false → KeptFront start before head all args place
     → place ≡ count all → Grows before now → IsJobKept now.pkg head args f → IsKept now (Call head all) f
 front_call start before now head all args place f n front end g j =
     let past = ap (λ i. from_place i all) end ∙ from-end all in
     one_call now head all args f n
     (subst (AreKept now all) (append-none args) (front.front now g [] (subst (λ l. AreKept now l []) (sym past) tt))) j
 
-answered : (start before now : Held) (r : Func) (result : Result Func StepFault) → before ≡ start → (result ≡ Ok r) × (now ≡ before) → Repeats start now r result
-answered start before now r result same h =
-    subst (λ (x : Result Func StepFault). Repeats start now r x) (sym h.0) (refl, h.1 ∙ same)
+answered : (start before now : Held) (r : Func) (result : Result Func StepFault) → before ≡ start → Repeats before now r result → Repeats start now r result
+answered start before now r result same h = subst (λ (x : Held). Repeats x now r result) same h
 
 pub front_answers : (start before now : Held) (head : Head) (all : Arguments) (args : List Value) (place : ℕ) (result : Result Func StepFault) → KeptFront start before head all args place
     → place ≡ count all → AnswersCall before now head args result → AnswersKept start now (Call head all) result
@@ -139,22 +151,26 @@ pub record KeptSteps (start now : Held) (head : Head) (all : Arguments) (f : Fun
   pub goes : (h : Held) → Grows now h → (r : Func) → Steps h head left f r → IsKept h (Call head all) r
   pub again : (r : Func) → IsKept start (Call head all) r → (now ≡ start) × Steps start head left f r
 
-nested_kept : (h : Held) (head : Head) (e : Tree) (es : Arguments) (f r : Func) → is_nested head ≡ true → IsKept h e f → Steps h head es f r → IsKept h (Call head (more e es)) r
-nested_kept h Const e es f r n k s = absurd (false≢true n)
-nested_kept h (One word) e es f r n k s = absurd (false≢true n)
-nested_kept h (Fold word) e es f r n k s = (Function f ∷ s.0, (k, s.1), s.2)
-nested_kept h Ite e es f r n k s = absurd (false≢true n)
+nested_kept : (h : Held) (head : Head) (e : Tree) (es : Arguments) (f r : Func) → is_fold head ≡ true → IsKept h e f → Steps h head es f r → IsKept h (Call head (more e es)) r
+nested_kept h head e es f r n k s =
+    let w = fold_of head n in
+    let steps = subst (λ (d : Head). Steps h d es f r) w.1 s in
+    subst (λ (d : Head). IsKept h (Call d (more e es)) r) (sym w.1) (Function f ∷ steps.0, (k, steps.1), steps.2)
 
-nested_split : (h : Held) (head : Head) (e : Tree) (es : Arguments) (r : Func) → is_nested head ≡ true → IsKept h (Call head (more e es)) r
-    → (f : Func) × IsKept h e f × Steps h head es f r
-nested_split h Const e es r n k = absurd (false≢true n)
-nested_split h (One word) e es r n k = absurd (false≢true n)
-nested_split h (Fold word) e es r n k =
+fold_split : (h : Held) (word : Word2) (e : Tree) (es : Arguments) (r : Func) → IsKept h (Call (Fold word) (more e es)) r
+    → (f : Func) × IsKept h e f × Steps h (Fold word) es f r
+fold_split h word e es r k =
     let split = first_kept h e es k.0 k.1 in
     (split.0, split.3, (split.1, split.4, subst (λ l. IsCallKept h.pkg (Fold word) l r) split.2 k.2))
-nested_split h Ite e es r n k = absurd (false≢true n)
 
-pub steps_begin : (start now : Held) (head : Head) (e : Tree) (es : Arguments) (f : Func) → is_nested head ≡ true → IsKept now e f → AnswersKept start now e (Ok f)
+nested_split : (h : Held) (head : Head) (e : Tree) (es : Arguments) (r : Func) → is_fold head ≡ true → IsKept h (Call head (more e es)) r
+    → (f : Func) × IsKept h e f × Steps h head es f r
+nested_split h head e es r n k =
+    let w = fold_of head n in
+    let split = fold_split h w.0 e es r (subst (λ (d : Head). IsKept h (Call d (more e es)) r) w.1 k) in
+    (split.0, split.1, subst (λ (d : Head). Steps h d es split.0 r) (sym w.1) split.2)
+
+pub steps_begin : (start now : Held) (head : Head) (e : Tree) (es : Arguments) (f : Func) → is_fold head ≡ true → IsKept now e f → AnswersKept start now e (Ok f)
     → KeptSteps start now head (more e es) f es
 steps_begin start now head e es f n kept again = record {
   goes = λ h g r s. nested_kept h head e es f r n (kept_on e now h g f kept) s;
@@ -164,7 +180,7 @@ steps_begin start now head e es f n kept again = record {
       (told.1, subst (λ (x : Func). Steps start head es x r) (sym told.0) split.2));
 }
 
-pub begin_fails : (start now : Held) (head : Head) (e : Tree) (es : Arguments) (fault : StepFault) → is_nested head ≡ true → AnswersKept start now e (Err fault)
+pub begin_fails : (start now : Held) (head : Head) (e : Tree) (es : Arguments) (fault : StepFault) → is_fold head ≡ true → AnswersKept start now e (Err fault)
     → AnswersKept start now (Call head (more e es)) (Err fault)
 begin_fails start now head e es fault n again r k =
     let split = nested_split start head e es r n k in
@@ -196,7 +212,7 @@ pub record Step (before after now : Held) (head : Head) (f g : Func) (result : R
 -- Where the call was kept at the start, its step is answered, and nothing changed.
 pub step_told : (start before after now : Held) (head : Head) (all : Arguments) (f g : Func) (result : Result Func StepFault) (e : Tree) (es : Arguments)
     → KeptSteps start before head all f (more e es) → Step before after now head f g result e → (r : Func) → IsKept start (Call head all) r
-    → (step : Func) × (result ≡ Ok step) × (now ≡ start) × Steps start head es step r
+    → (step : Func) × Repeats start now step result × Steps start head es step r
 step_told start before after now head all f g result e es steps s r k =
     let was = steps.again r k in
     let next = next_step start head e es f r was.1 in
@@ -204,7 +220,7 @@ step_told start before after now head all f g result e es steps s r k =
     let job = subst (λ x. IsJobKept start.pkg head (Function f ∷ Function x ∷ []) next.2) (sym told.0) next.3 in
     let same : after ≡ start = told.1 ∙ was.0 in
     let done = s.job next.2 (subst (λ (h : Held). IsJobKept h.pkg head (Function f ∷ Function g ∷ []) next.2) (sym same) job) in
-    (next.2, done.0, done.1 ∙ same, next.4)
+    (next.2, subst (λ (h : Held). Repeats h now next.2 result) same done, next.4)
 
 pub steps_push : (start before after now : Held) (head : Head) (all : Arguments) (f g r : Func) (result : Result Func StepFault) (e : Tree) (es : Arguments)
     → KeptSteps start before head all f (more e es) → Step before after now head f g result e → result ≡ Ok r → IsJobKept now.pkg head (Function f ∷ Function g ∷ []) r
@@ -218,14 +234,15 @@ steps_push start before after now head all f g r result e es steps s is job = re
       );
   again = λ x k.
       (let told = step_told start before after now head all f g result e es steps s x k in
-      (told.2, subst (λ (y : Func). Steps start head es y x) (same_Ok result told.0 r told.1 is) told.3));
+      let found = subst (λ (y : Result Func StepFault). Repeats start now told.0 y) is told.1 in
+      (found.1, subst (λ (y : Func). Steps start head es y x) (sym found.0) told.2));
 }
 
 pub job_fails : (start before after now : Held) (head : Head) (all : Arguments) (f g : Func) (result : Result Func StepFault) (fault : StepFault) (e : Tree) (es : Arguments)
     → KeptSteps start before head all f (more e es) → Step before after now head f g result e → result ≡ Err fault → AnswersKept start now (Call head all) (Err fault)
 job_fails start before after now head all f g result fault e es steps s is r k =
     let told = step_told start before after now head all f g result e es steps s r k in
-    absurd (ok-err result told.0 fault told.1 is)
+    repeats_from start start now r told.0 fault refl (subst (λ (y : Result Func StepFault). Repeats start now told.0 y) is told.1)
 
 -- no argument is left
 pub steps_end : (start now : Held) (head : Head) (all : Arguments) (f : Func) → KeptSteps start now head all f none

@@ -5,6 +5,9 @@ pub mod Shapes
 pub mod Growth
 pub mod Built
 pub mod Walked
+pub mod HeadFacts
+pub mod VariableLaws
+pub mod SumSteps
 pub mod Jobs
 pub mod Gathering
 pub mod Leaves
@@ -12,8 +15,11 @@ pub mod Nesting
 pub mod Listed
 pub mod Places
 pub mod Turns
+pub mod KeptShapes
 pub mod Kept
 pub mod KeptCalls
+pub mod OverFacts
+pub mod Finished
 pub mod Recalled
 pub mod Recalling
 pub mod KeepingExamples

@@ -1,14 +1,14 @@
 -- The arguments of a call as a list.
 use Rattle.std.proofs.Common.{ℕ, zero, suc, ◌-◌, ◌≤◌, ◌<◌, ◌≡◌, max, List, [], ◌∷◌, length, get_or, take, drop, true, None, refl, ap, sym, subst, ◌∙◌, arith}
 use Rattle.std.specs.Prelude.{IsTrue}
-use Rattle.std.proofs.lemmas.Bool.{false≢true}
 use Rattle.std.proofs.lemmas.Bool.Decides.{nat_tests}
 use Rattle.cf_model.specs.declared.terms.Word2.{Word2}
 use Rattle.cf_model.specs.declared.terms.Word2.TheVariants.{And, Or, Xor, Plus, Minus, Times, Min, Max, Eq, Lt}
 use Rattle.cf_reference.specs.declared.grammar.Head.{Head}
-use Rattle.cf_reference.specs.declared.grammar.Head.TheVariants.{Const, One, Fold, Ite}
+use Rattle.cf_reference.specs.declared.grammar.Head.TheVariants.{Fold}
 use Rattle.cf_reference.specs.Heads.{takes}
-use Rattle.cf_reference.specs.Calls.{is_nested}
+use Rattle.cf_session.specs.Arguments.{is_fold}
+use Rattle.cf_session.proofs.HeadFacts.{fold_of}
 use Rattle.cf_reference.specs.Trees.{count, depth, depths, IsFormed, AreFormed}
 use Rattle.cf_reference.specs.States.{State}
 use Rattle.cf_reference.specs.Expressions.{walk, walks}
@@ -35,11 +35,10 @@ takes_some Times n h = grind (arith, nat_tests)
 takes_some Min n h = grind (arith, nat_tests)
 takes_some Max n h = grind (arith, nat_tests)
 
-pub nested_long : (head : Head) (es : List Expr) → is_nested head ≡ true → IsTrue (takes head (count (listed es))) → 1 ≤ length es
-nested_long Const es n h = absurd (false≢true n)
-nested_long (One word) es n h = absurd (false≢true n)
-nested_long (Fold word) es n h = omega (arith, takes_some word (count (listed es)) h, count_listed es)
-nested_long Ite es n h = absurd (false≢true n)
+pub nested_long : (head : Head) (es : List Expr) → is_fold head ≡ true → IsTrue (takes head (count (listed es))) → 1 ≤ length es
+nested_long head es n h =
+    let w = fold_of head n in
+    omega (arith, takes_some w.0 (count (listed es)) (subst (λ (d : Head). IsTrue (takes d (count (listed es)))) w.1 h), count_listed es)
 
 -- What is known of a call's arguments is known of each of them.
 pub item_formed : (head : Head) (place : ℕ) (es : List Expr) (i : ℕ) (e : Expr) → e ≡ get_or es i e → i < length es → AreFormed head place (listed es)

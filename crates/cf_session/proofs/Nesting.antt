@@ -8,17 +8,20 @@ use Rattle.std.proofs.lemmas.Bool.Decides.{nat_tests}
 use Rattle.cf_model.specs.Values.{fitting, and_then}
 use Rattle.cf_model.specs.Terms.{joined}
 use Rattle.cf_model.specs.FlatFunctions.{FlatFunction, IsFlatFunction, IsAssignment, value_at}
+use Rattle.cf_model.specs.declared.terms.Word2.{Word2}
 use Rattle.cf_model.specs.declared.terms.Word2.TheVariants.{And, Or, Xor, Plus, Minus, Times, Min, Max, Eq, Lt}
 use Rattle.cf_model.proofs.TermLaws.{fitting-some}
 use Rattle.cf_pkg.specs.declared.Func.{Func}
 use Rattle.cf_pkg.specs.Packages.{Package, OwnsFunction, Keeps, meaning}
 use Rattle.cf_reference.specs.declared.grammar.Head.{Head}
-use Rattle.cf_reference.specs.declared.grammar.Head.TheVariants.{Const, One, Fold, Ite}
+use Rattle.cf_reference.specs.declared.grammar.Head.TheVariants.{Fold}
 use Rattle.cf_reference.specs.Heads.{signature}
 use Rattle.cf_reference.specs.Trees.{Tree, Call, Arguments, none, more, atom, AreFormed, IsFormed}
 use Rattle.cf_reference.specs.Reasons.{LevelsDiffer, BadLevel, OutOfRange, unless}
 use Rattle.cf_reference.specs.States.{State, at}
 use Rattle.cf_reference.specs.Calls.{Part, flat, Meant, Function, levels, exact, call, call_refusal, is_nested}
+use Rattle.cf_session.specs.Arguments.{is_fold}
+use Rattle.cf_session.proofs.HeadFacts.{fold_of, fold_nests, pair_parts}
 use Rattle.cf_reference.specs.Expressions.{part, level, meant, walk, walks}
 use Rattle.cf_reference.specs.Failures.{failure, first_failure, fold_step, over, over_arguments}
 use Rattle.cf_reference.specs.Gives.{Gives, GivesTree}
@@ -31,7 +34,7 @@ use Rattle.cf_reference.proofs.WalkLaws.{walks-first, walks-later, walk-Call-arg
 use Rattle.cf_session.specs.declared.faults.StepFault.{StepFault}
 use Rattle.cf_session.specs.declared.values.Value.TheVariants as value
 use Rattle.cf_session.specs.Building.{Builds, IsFault, IsFaultOf}
-use Rattle.cf_session.specs.Values.{AreOwned, AreOf, Calls}
+use Rattle.cf_session.specs.Values.{AreOwned, AreOf, call_parts, Calls}
 use Rattle.cf_session.proofs.Built.{fault_turned, same_level, or_nones, or_second, or_first}
 use Rattle.cf_session.proofs.WalkFacts.{append-none}
 
@@ -47,37 +50,38 @@ exact_is head args f g bits a =
     it.1 ∙ ap Some (fitting-some it.0 (at f bits) it.2).0 ∙ sym got
 
 -- The level of nested calls is the first function's.
-first_level : (head : Head) → is_nested head ≡ true → (f : FlatFunction) (later : List Meant) → (exact head (Function f ∷ later)).level ≡ f.level
-first_level Const n f later = absurd (false≢true n)
-first_level (One word) n f later = absurd (false≢true n)
-first_level (Fold word) n f later = refl
-first_level Ite n f later = absurd (false≢true n)
+first_level : (head : Head) → is_fold head ≡ true → (f : FlatFunction) (later : List Meant) → (exact head (Function f ∷ later)).level ≡ f.level
+first_level head n f later = ap (λ (h : Head). (exact h (Function f ∷ later)).level) (fold_of head n).1
 
 -- one function stands for itself
-one_gives : (head : Head) → is_nested head ≡ true → (f : FlatFunction) → IsFlatFunction f → Gives (call head (Function f ∷ [])) f
-one_gives Const n f flat = absurd (false≢true n)
-one_gives (One word) n f flat = absurd (false≢true n)
-one_gives (Fold word) n f flat = gives-call (Fold word) (Function f ∷ []) f flat refl (λ bits a. has_value f flat bits a)
-one_gives Ite n f flat = absurd (false≢true n)
+one_gives : (head : Head) → is_fold head ≡ true → (f : FlatFunction) → IsFlatFunction f → Gives (call head (Function f ∷ [])) f
+one_gives head n f flat =
+    let w = fold_of head n in
+    subst (λ (h : Head). Gives (call h (Function f ∷ [])) f) (sym w.1) (gives-call (Fold w.0) (Function f ∷ []) f flat refl (λ bits a. has_value f flat bits a))
 
 -- A call of one more function has the values of the call of two: that of the functions before it, and it.
-nested_value : (head : Head) → is_nested head ≡ true → (first : FlatFunction) (others : List Meant) (f g : FlatFunction) → Gives (call head (Function first ∷ others)) f
+fold_value : (word : Word2) (first : FlatFunction) (others : List Meant) (f g : FlatFunction) → Gives (call (Fold word) (Function first ∷ others)) f
     → (bits : List Bool) → IsAssignment f.level bits
-    → (exact head (Function f ∷ Function g ∷ [])).value bits ≡ (exact head (Function first ∷ others ++ Function g ∷ [])).value bits
-nested_value Const n first others f g h bits a = absurd (false≢true n)
-nested_value (One word) n first others f g h bits a = absurd (false≢true n)
-nested_value (Fold word) n first others f g h bits a =
+    → (exact (Fold word) (Function f ∷ Function g ∷ [])).value bits ≡ (exact (Fold word) (Function first ∷ others ++ Function g ∷ [])).value bits
+fold_value word first others f g h bits a =
     sym (fold-step word first others g bits
     ∙ ap (λ (o : Option ℤ). joined word o (Some (at g bits))) (exact_is (Fold word) (Function first ∷ others) f h bits a ∙ has_value f h.flat bits a))
-nested_value Ite n first others f g h bits a = absurd (false≢true n)
 
-nested_level : (head : Head) → is_nested head ≡ true → (first : FlatFunction) (others later : List Meant) (f g : FlatFunction) → Gives (call head (Function first ∷ others)) f
+nested_value : (head : Head) → is_fold head ≡ true → (first : FlatFunction) (others : List Meant) (f g : FlatFunction) → Gives (call head (Function first ∷ others)) f
+    → (bits : List Bool) → IsAssignment f.level bits
+    → (exact head (Function f ∷ Function g ∷ [])).value bits ≡ (exact head (Function first ∷ others ++ Function g ∷ [])).value bits
+nested_value head n first others f g h bits a =
+    let w = fold_of head n in
+    subst (λ (d : Head). (exact d (Function f ∷ Function g ∷ [])).value bits ≡ (exact d (Function first ∷ others ++ Function g ∷ [])).value bits) (sym w.1)
+    (fold_value w.0 first others f g (subst (λ (d : Head). Gives (call d (Function first ∷ others)) f) w.1 h) bits a)
+
+nested_level : (head : Head) → is_fold head ≡ true → (first : FlatFunction) (others later : List Meant) (f g : FlatFunction) → Gives (call head (Function first ∷ others)) f
     → (exact head (Function f ∷ later)).level ≡ (exact head (Function first ∷ others ++ Function g ∷ [])).level
 nested_level head n first others later f g h =
     first_level head n f later ∙ h.level ∙ first_level head n first others ∙ sym (first_level head n first (others ++ Function g ∷ []))
 
 -- the values of both calls at the assignments of their level
-nested_same : (head : Head) → is_nested head ≡ true → (first : FlatFunction) (others : List Meant) (f g : FlatFunction) → Gives (call head (Function first ∷ others)) f
+nested_same : (head : Head) → is_fold head ≡ true → (first : FlatFunction) (others : List Meant) (f g : FlatFunction) → Gives (call head (Function first ∷ others)) f
     → (bits : List Bool) → IsAssignment (exact head (Function f ∷ Function g ∷ [])).level bits
     → (call head (Function f ∷ Function g ∷ [])).value bits ≡ (call head (Function first ∷ others ++ Function g ∷ [])).value bits
 nested_same head n first others f g h bits a =
@@ -89,22 +93,24 @@ pub pair_owned : (p : Package) (f g : Func) → OwnsFunction p f → IsFlatFunct
     → AreOwned p (value.Function f ∷ value.Function g ∷ [])
 pair_owned p f g own flat own_g flat_g = ((own, flat), ((own_g, flat_g), tt))
 
-pub pair_kinds : (head : Head) → is_nested head ≡ true → (f g : Func) → AreOf (signature head).first (signature head).further (value.Function f ∷ value.Function g ∷ [])
-pair_kinds Const n f g = absurd (false≢true n)
-pair_kinds (One word) n f g = absurd (false≢true n)
-pair_kinds (Fold And) n f g = (tt, (tt, tt))
-pair_kinds (Fold Or) n f g = (tt, (tt, tt))
-pair_kinds (Fold Xor) n f g = (tt, (tt, tt))
-pair_kinds (Fold Plus) n f g = (tt, (tt, tt))
-pair_kinds (Fold Minus) n f g = (tt, (tt, tt))
-pair_kinds (Fold Times) n f g = (tt, (tt, tt))
-pair_kinds (Fold Min) n f g = (tt, (tt, tt))
-pair_kinds (Fold Max) n f g = (tt, (tt, tt))
-pair_kinds (Fold Eq) n f g = (tt, (tt, tt))
-pair_kinds (Fold Lt) n f g = (tt, (tt, tt))
-pair_kinds Ite n f g = absurd (false≢true n)
+two_kinds : (word : Word2) (f g : Func) → AreOf (signature (Fold word)).first (signature (Fold word)).further (value.Function f ∷ value.Function g ∷ [])
+two_kinds And f g = (tt, (tt, tt))
+two_kinds Or f g = (tt, (tt, tt))
+two_kinds Xor f g = (tt, (tt, tt))
+two_kinds Plus f g = (tt, (tt, tt))
+two_kinds Minus f g = (tt, (tt, tt))
+two_kinds Times f g = (tt, (tt, tt))
+two_kinds Min f g = (tt, (tt, tt))
+two_kinds Max f g = (tt, (tt, tt))
+two_kinds Eq f g = (tt, (tt, tt))
+two_kinds Lt f g = (tt, (tt, tt))
 
-pub pair_ruled : (head : Head) → is_nested head ≡ true → (f g : FlatFunction) → g.level ≡ f.level → f.level ≤ 7 → call_refusal head (Function f ∷ Function g ∷ []) ≡ None
+pub pair_kinds : (head : Head) → is_fold head ≡ true → (f g : Func) → AreOf (signature head).first (signature head).further (value.Function f ∷ value.Function g ∷ [])
+pair_kinds head n f g =
+    let w = fold_of head n in
+    subst (λ (d : Head). AreOf (signature d).first (signature d).further (value.Function f ∷ value.Function g ∷ [])) (sym w.1) (two_kinds w.0 f g)
+
+pub pair_ruled : (head : Head) → is_fold head ≡ true → (f g : FlatFunction) → g.level ≡ f.level → f.level ≤ 7 → call_refusal head (Function f ∷ Function g ∷ []) ≡ None
 pair_ruled head n f g same low =
     ap (λ b. option_or (unless (b && true) LevelsDiffer) (option_or (unless true OutOfRange) (unless (nat_le (exact head (Function f ∷ Function g ∷ [])).level 7) BadLevel)))
     (is_same g.level f.level same)
@@ -117,7 +123,7 @@ over_left s head all done left =
 
 -- A function is that of the first arguments of nested calls, and these arguments are left.
 pub record Nesting (s : State) (head : Head) (all : Arguments) (p : Package) (f : Func) (left : Arguments) : Type 0 where
-  pub nests : is_nested head ≡ true
+  pub nests : is_fold head ≡ true
   pub first : FlatFunction
   pub others : List Meant
   pub place : ℕ
@@ -146,7 +152,7 @@ none_nested head = by (is_nested head)
     by false = refl
 
 -- the first argument
-pub nesting_begins : (s : State) (head : Head) (e : Tree) (es : Arguments) (p : Package) (f : Func) → is_nested head ≡ true → IsFormed (Call head (more e es))
+pub nesting_begins : (s : State) (head : Head) (e : Tree) (es : Arguments) (p : Package) (f : Func) → is_fold head ≡ true → IsFormed (Call head (more e es))
     → walk s (Call head (more e es)) ≡ None → Builds s e p f → Nesting s head (more e es) p f es
 nesting_begins s head e es p f n formed walked b =
     let g = meaning p f in
@@ -296,21 +302,21 @@ two_of (b ∷ others) m = (b, others ++ m ∷ [], refl)
 
 pub step_fails : (s : State) (head : Head) (all : Arguments) (p : Package) (f g : Func) (e : Tree) (es : Arguments)
     → Nesting s head all p f (more e es) → Builds s e p g → (fault : StepFault)
-    → IsFault (λ bits. failure (call head (Function (meaning p f) ∷ Function (meaning p g) ∷ [])) ≡ Some bits) fault → IsFaultOf s (Call head all) fault
+    → IsFault (λ bits. first_failure (call_parts head (Function (meaning p f) ∷ Function (meaning p g) ∷ [])) ≡ Some bits) fault → IsFaultOf s (Call head all) fault
 step_fails s head all p f g e es h b =
     let x = meaning p g in
     let two = Function (meaning p f) ∷ Function x ∷ [] in
     let second = two_of h.others (Function x) in
-    fault_turned (λ bits. failure (call head two) ≡ Some bits) (λ bits. over s (Call head all) ≡ Some bits)
+    fault_turned (λ bits. first_failure (call_parts head two) ≡ Some bits) (λ bits. over s (Call head all) ≡ Some bits)
     (λ bits fails.
     next_over s head all p f g e es h b
     ∙ ap (λ k. over_left s head all (Function h.first ∷ k) es) second.2
-    ∙ over_done s head all (Function h.first) second.0 second.1 es bits h.nests
+    ∙ over_done s head all (Function h.first) second.0 second.1 es bits (fold_nests head h.nests)
     (next_meant s head all p f g e es h b ∙ ap (λ k. (Function h.first ∷ k) ++ meant s es) second.2)
     (ap (λ k. failure (call head (Function h.first ∷ k))) (sym second.2)
     ∙ sym (failure-same (call head two) (call head (Function h.first ∷ h.others ++ Function x ∷ []))
     (nested_level head h.nests h.first h.others (Function x ∷ []) (meaning p f) x h.gives) (nested_same head h.nests h.first h.others (meaning p f) x h.gives))
-    ∙ fails))
+    ∙ sym (pair_parts head h.nests (Function (meaning p f)) (Function x)) ∙ fails))
 
 -- the first argument fails
 pub first_fails : (s : State) (head : Head) (e : Tree) (es : Arguments) (fault : StepFault) → IsFaultOf s e fault

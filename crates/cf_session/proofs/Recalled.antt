@@ -1,7 +1,7 @@
 -- A kept expression isn't refused, and its function is built.
 use Rattle.std.proofs.Common.{ℕ, ℤ, zero, suc, pos, ◌≡◌, ◌≤◌, ◌<◌, ◌≤ℤ◌, ◌^◌, ◌==◌, ◌&&◌, true, false, List, [], ◌∷◌, ◌++◌, Some, None, Ok, refl, sym, ap, subst, ◌∙◌, arith}
 use Rattle.std.proofs.lemmas.Int.{ints}
-use Rattle.std.specs.Prelude.{negsuc, nat_abs, nat_le, is_some}
+use Rattle.std.specs.Prelude.{negsuc, nat_abs, nat_le, is_some, unwrap_or, All}
 use Rattle.std.specs.List.{list_all}
 use Rattle.std.specs.Option.{option_or, option_map}
 use Rattle.std.proofs.lemmas.Bool.Decides.{nat_tests}
@@ -15,23 +15,24 @@ use Rattle.cf_pkg.specs.declared.Func.{Func}
 use Rattle.cf_pkg.specs.Tasks.{Task}
 use Rattle.cf_pkg.specs.Tasks as task
 use Rattle.cf_pkg.specs.Packages.{Package, IsRemembered, OwnsFunction, meaning}
-use Rattle.cf_pkg.specs.Jobs.{Finishes, task_value}
+use Rattle.cf_pkg.specs.Jobs.{Finishes, task_value, value_in}
 use Rattle.cf_reference.specs.declared.grammar.Head.{Head}
-use Rattle.cf_reference.specs.declared.grammar.Head.TheVariants.{Const, One, Fold, Ite}
+use Rattle.cf_reference.specs.declared.grammar.Head.TheVariants.{Const, One, Fold, Ite, Restrict, Exists, Forall, SumOut, Compose, AndExists}
 use Rattle.cf_reference.specs.Trees.{Tree, Num, At, Named, Call, Arguments, none, more, atom, Atom, Variable, IsFormed, AreFormed, IsFormedAtom}
 use Rattle.cf_reference.specs.Trees as tree
-use Rattle.cf_reference.specs.Heads.{kind_in, kind_at}
-use Rattle.cf_reference.specs.declared.grammar.Kind.TheVariants.{Expression as AnExpression}
+use Rattle.cf_reference.specs.Heads.{kind_at, signature}
+use Rattle.cf_reference.specs.declared.grammar.Kind.{Kind}
+use Rattle.cf_reference.specs.declared.grammar.Kind.TheVariants.{Expression as AnExpression, Variable as AVariable, Natural as ANatural, Number as ANumber, Bit as ABit}
 use Rattle.cf_reference.specs.Reasons.{NoLevel, LevelsDiffer, BadLevel, OutOfRange, NoName, Overflow, unless}
-use Rattle.cf_reference.specs.States.{State, level_in, is_below}
-use Rattle.cf_reference.specs.Calls.{Part, Meant, call, call_refusal, levels, positions, is_nested, flat}
+use Rattle.cf_reference.specs.States.{State, level_in, is_below, position_of}
+use Rattle.cf_reference.specs.Calls.{Part, Meant, call, call_refusal, levels, positions, exact, flat}
 use Rattle.cf_reference.specs.Calls as means
 use Rattle.cf_reference.specs.Carrying.{function_from}
 use Rattle.cf_reference.specs.Expressions.{part, meant, meant_atom, walk, walks, walk_atom}
 use Rattle.cf_reference.specs.Failures.{failure, over, over_arguments, first_failure, fold_step}
 use Rattle.cf_reference.specs.Gives.{Gives, GivesTree}
 use Rattle.cf_reference.proofs.ExpressionLaws.{part-Call, meant-none, meant-more, meant-atom, walk-Num, walk-At, walk-Named, walks-none, walks-more, walks-atom}
-use Rattle.cf_reference.proofs.FailureLaws.{over-Call, over-Num, over-At, over_arguments-none, over_arguments-more, over_arguments-atom}
+use Rattle.cf_reference.proofs.FailureLaws.{first_failure-append, over-Call, over-Num, over-At, over_arguments-none, over_arguments-more, over_arguments-atom}
 use Rattle.cf_reference.proofs.GivesLaws.{gives-Num, gives-At, gives-let, gives-never}
 use Rattle.cf_reference.proofs.TestFacts.{is_le}
 use Rattle.cf_reference.proofs.WalkLaws.{walk-Call-goes}
@@ -39,18 +40,22 @@ use Rattle.cf_session.specs.declared.values.Value.{Value}
 use Rattle.cf_session.specs.declared.values.Value.TheVariants.{Function, Position, Number}
 use Rattle.cf_session.specs.Sessions.{Held, state_of, StandsFor}
 use Rattle.cf_session.specs.Building.{Builds, refusal_of}
-use Rattle.cf_session.specs.Values.{meaning_of, meanings, Calls}
+use Rattle.cf_session.specs.Values.{meaning_of, meanings, places_of, AreOf, steps_behind, Calls}
 use Rattle.cf_session.specs.Keeping.{call_task, IsJobKept, AreStepsKept, IsCallKept, IsKept, AreKept, AnswersAgain}
-use Rattle.cf_session.proofs.Built.{name_built, or_nones}
-use Rattle.cf_session.proofs.Gathering.{unnested}
+use Rattle.cf_session.proofs.Built.{name_built, or_nones, or_second}
+use Rattle.cf_session.proofs.Gathering.{of_kinds}
 use Rattle.cf_session.proofs.Kept.{first_kept, none_kept}
 use Rattle.cf_session.proofs.Jobs.{job_calls, one_calls, fold_calls, choice_calls}
+use Rattle.cf_session.proofs.VariableLaws.{over_one, restrict_calls, exists_calls, forall_calls, sum_calls, compose_calls, joined_calls}
+use Rattle.cf_session.proofs.KeptShapes.{task_kept, restrict_shape, exists_shape, forall_shape, sum_shape, compose_shape, joined_shape}
+use Rattle.cf_session.proofs.Finished.{Lawful, AreFinished, quantified_over, composed_over, joined_over, low_goes, over_goes, below, AreNatural, both_true, all_below, no_levels, none_differ}
+use Rattle.cf_restrict.specs.Quantified.{some_value, AreQuantified, IsJoined, IsComposed}
+use Rattle.cf_restrict.proofs.QuantLaws.{values_as, some_is, every_is}
+use Rattle.cf_model.specs.Terms.{is_true}
+use Rattle.cf_model.specs.Quantified.{over_all, some_setting, every_setting}
+use Rattle.cf_session.proofs.Shapes.{of-formed}
+use Rattle.cf_session.specs.Arguments.{OfKinds}
 use Rattle.cf_session.proofs.Nesting.{Nesting, nesting_begins, nesting_step, nesting_ends, pair_ruled, is_same}
-
--- What a package says of each of its functions and of each finished job.
-pub record Lawful (p : Package) : Type 0 where
-  pub flat : (f : Func) → OwnsFunction p f → IsFlatFunction (meaning p f)
-  pub finished : (t : Task) (f : Func) → IsRemembered p t f → Finishes p t f
 
 -- The function is that of a call on the values, which no rule refuses.
 record Done (p : Package) (head : Head) (args : List Value) (r : Func) : Type 0 where
@@ -58,12 +63,9 @@ record Done (p : Package) (head : Head) (args : List Value) (r : Func) : Type 0 
   pub goes : call_refusal head (meanings p args) ≡ None
 
 told : (p : Package) → Lawful p → (head : Head) (args : List Value) (t : Task) (r : Func) → call_task head args ≡ Some t → IsJobKept p head args r → Finishes p t r
-told p law head args t r e j = law.finished t r (subst (λ x. IsRemembered p x r) (sym (same_Some t j.0 (sym e ∙ j.1))) j.2)
+told p law head args t r e j = law.finished t r (task_kept p head args t r e j)
 
 -- the rules of each head
-low_goes : (l : ℕ) → l ≤ 7 → unless (nat_le l 7) BadLevel ≡ None
-low_goes l low = ap (λ b. unless b BadLevel) (is_le l 7 low)
-
 three_goes : (f g h : FlatFunction) → g.level ≡ f.level → h.level ≡ f.level → f.level ≤ 7
     → call_refusal Ite (means.Function f ∷ means.Function g ∷ means.Function h ∷ []) ≡ None
 three_goes f g h second third low =
@@ -77,7 +79,7 @@ const_done p law l n r j =
     let args = Number l ∷ Number n ∷ [] in
     let done = told p law Const args (task.Const (nat_abs l) n) r refl j in
     record {
-      calls = job_calls Const (meanings p args) p r (nat_abs l) (task_value p (task.Const (nat_abs l) n)) done.values (law.flat r done.values.owned) refl (λ bits. refl);
+      calls = job_calls Const (meanings p args) p r (nat_abs l) (task_value p (task.Const (nat_abs l) n)) done.values (law.flat r done.values.owned) refl (λ bits. refl) refl;
       goes = low_goes (nat_abs l) done.in_order;
     }
 
@@ -106,6 +108,78 @@ choice_done p law f g h r j =
       goes = three_goes (meaning p f) (meaning p g) (meaning p h) (sym done.in_order.0.level) (sym done.in_order.1.level) (law.flat f done.in_order.0.first).level_in;
     }
 
+restrict_done : (p : Package) → Lawful p → (f : Func) (i n : ℤ) (r : Func) → pos 0 ≤ℤ i → IsRemembered p (task.Restrict f (nat_abs i) (is_true n)) r
+    → Done p Restrict (Function f ∷ Position i ∷ Number n ∷ []) r
+restrict_done p law f i n r low k =
+    let done = law.finished (task.Restrict f (nat_abs i) (is_true n)) r k in
+    record {
+      calls = restrict_calls p p f r i n done.values (law.flat r done.values.owned);
+      goes = over_goes Restrict (meaning p f) (means.Position i ∷ means.Number n ∷ []) refl refl
+          (both_true (is_below i (2 ^ f.head.level)) true (below i (2 ^ f.head.level) low done.in_order.1) refl) (law.flat f done.in_order.0).level_in;
+    }
+
+-- the rules of a call of one function and variables
+variables_go : (p : Package) → Lawful p → (head : Head) (f : Func) (vs : List Value) → (exact head (over_one p f vs)).level ≡ f.head.level → OwnsFunction p f → AreNatural vs
+    → AreOf [] (Some AVariable) vs → All (λ i. i < 2 ^ f.head.level) (places_of vs) → call_refusal head (over_one p f vs) ≡ None
+variables_go p law head f vs is owned natural kinds within =
+    over_goes head (meaning p f) (meanings p vs) is (none_differ f.head.level (levels (meanings p vs)) (no_levels p vs kinds)) (all_below f.head.level p vs natural within)
+    (law.flat f owned).level_in
+
+exists_done : (p : Package) → Lawful p → (f : Func) (i : ℤ) (vars : List Value) (r : Func) → AreNatural (Position i ∷ vars) → AreOf [] (Some AVariable) (Position i ∷ vars)
+    → AreQuantified p Or f (nat_abs i ∷ places_of vars) r → Done p Exists (Function f ∷ Position i ∷ vars) r
+exists_done p law f i vars r natural kinds k =
+    let vs = Position i ∷ vars in
+    let done = quantified_over p law Or f (nat_abs i) (places_of vars) r k in
+    let values = values_as p r f.head.level f.head.level (over_all Or (some_value p f) (places_of vs)) (λ bits. Some (some_setting (value_in p f) (places_of vs) bits)) done.values refl
+    (λ bits a. some_is (value_in p f) (places_of vs) (omega arith) bits) in
+    record {
+      calls = exists_calls p p f r vs values (law.flat r values.owned);
+      goes = variables_go p law Exists f vs refl done.owned natural kinds done.within;
+    }
+
+forall_done : (p : Package) → Lawful p → (f : Func) (i : ℤ) (vars : List Value) (r : Func) → AreNatural (Position i ∷ vars) → AreOf [] (Some AVariable) (Position i ∷ vars)
+    → AreQuantified p And f (nat_abs i ∷ places_of vars) r → Done p Forall (Function f ∷ Position i ∷ vars) r
+forall_done p law f i vars r natural kinds k =
+    let vs = Position i ∷ vars in
+    let done = quantified_over p law And f (nat_abs i) (places_of vars) r k in
+    let values = values_as p r f.head.level f.head.level (over_all And (some_value p f) (places_of vs)) (λ bits. Some (every_setting (value_in p f) (places_of vs) bits)) done.values refl
+    (λ bits a. every_is (value_in p f) (places_of vs) (omega arith) bits) in
+    record {
+      calls = forall_calls p p f r vs values (law.flat r values.owned);
+      goes = variables_go p law Forall f vs refl done.owned natural kinds done.within;
+    }
+
+sum_done : (p : Package) → Lawful p → (f : Func) (i : ℤ) (vars : List Value) (r : Func) → AreNatural (Position i ∷ vars) → AreOf [] (Some AVariable) (Position i ∷ vars)
+    → AreQuantified p Plus f (nat_abs i ∷ places_of vars) r → Done p SumOut (Function f ∷ Position i ∷ vars) r
+sum_done p law f i vars r natural kinds k =
+    let vs = Position i ∷ vars in
+    let done = quantified_over p law Plus f (nat_abs i) (places_of vars) r k in
+    record {
+      calls = sum_calls p p f r vs (law.flat f done.owned) kinds done.values (law.flat r done.values.owned);
+      goes = variables_go p law SumOut f vs refl done.owned natural kinds done.within;
+    }
+
+compose_done : (p : Package) → Lawful p → (f : Func) (i : ℤ) (g r : Func) → pos 0 ≤ℤ i → IsComposed p f (nat_abs i) g r → Done p Compose (Function f ∷ Position i ∷ Function g ∷ []) r
+compose_done p law f i g r low k =
+    let done = composed_over p law f (nat_abs i) g r k in
+    record {
+      calls = compose_calls p p f g r i done.values (law.flat r done.values.owned);
+      goes = over_goes Compose (meaning p f) (means.Position i ∷ means.Function (meaning p g) ∷ []) refl (both_true (g.head.level == f.head.level) true (is_same g.head.level f.head.level done.level) refl)
+          (both_true (is_below i (2 ^ f.head.level)) true (below i (2 ^ f.head.level) low done.within) refl) (law.flat f done.first).level_in;
+    }
+
+joined_done : (p : Package) → Lawful p → (f g : Func) (i : ℤ) (vars : List Value) (r : Func) → AreNatural (Position i ∷ vars) → AreOf [] (Some AVariable) (Position i ∷ vars)
+    → IsJoined p f g (nat_abs i ∷ places_of vars) r → Done p AndExists (Function f ∷ Function g ∷ Position i ∷ vars) r
+joined_done p law f g i vars r natural kinds k =
+    let vs = Position i ∷ vars in
+    let done = joined_over p law f g (nat_abs i) (places_of vars) r k in
+    record {
+      calls = joined_calls p p f g r vs done.values (law.flat r done.values.owned);
+      goes = over_goes AndExists (meaning p f) (means.Function (meaning p g) ∷ meanings p vs) refl
+          (both_true (g.head.level == f.head.level) _ (is_same g.head.level f.head.level (sym done.level.level)) (none_differ f.head.level (levels (meanings p vs)) (no_levels p vs kinds)))
+          (all_below f.head.level p vs natural done.within) (law.flat f done.level.first).level_in;
+    }
+
 -- Arguments that aren't refused, and what they come to: an expression its function, which is built, and an atom what it means.
 abbrev AreBuilt : State → Package → Arguments → List Value → Type 0
 AreBuilt s p none [] = Unit {0}
@@ -120,20 +194,22 @@ AreBuilt s p (atom a es) others = ⊥
 record Come (s : State) (p : Package) (es : Arguments) (args : List Value) : Type 0 where
   pub walked : walks s es ≡ None
   pub is_meant : meant s es ≡ meanings p args
-  pub fits : (head : Head) (done : List Meant) → is_nested head ≡ false → over_arguments s head done es ≡ None
+  pub fits : (head : Head) (done : List Meant) → over_arguments s head done es ≡ first_failure (steps_behind head done (meanings p args))
 
 come_atom : (s : State) (p : Package) (a : Atom) (es : Arguments) (v : Value) (later : List Value) → walk_atom s a ≡ None → meant_atom s a ≡ meaning_of p v
     → Come s p es later → Come s p (atom a es) (v ∷ later)
 come_atom s p a es v later w m c = record {
   walked = walks-atom s a es ∙ or_nones (walk_atom s a) (walks s es) w c.walked;
   is_meant = meant-atom s a es ∙ ap (λ x. x ∷ meant s es) m ∙ ap (λ l. meaning_of p v ∷ l) c.is_meant;
-  fits = λ head done n.
+  fits = λ head done.
       over_arguments-atom s head done a es
-      ∙ or_nones (first_failure (fold_step head done)) _ (unnested head done n) (c.fits head (done ++ meant_atom s a ∷ []) n);
+      ∙ ap (option_or (first_failure (fold_step head done)))
+      (c.fits head (done ++ meant_atom s a ∷ []) ∙ ap (λ x. first_failure (steps_behind head (done ++ x ∷ []) (meanings p later))) m)
+      ∙ sym (first_failure-append (fold_step head done) (steps_behind head (done ++ meaning_of p v ∷ []) (meanings p later)));
 }
 
 come : (s : State) (p : Package) (es : Arguments) (args : List Value) → AreBuilt s p es args → Come s p es args
-come s p none [] b = record { walked = walks-none s; is_meant = meant-none s; fits = λ head done n. over_arguments-none s head done }
+come s p none [] b = record { walked = walks-none s; is_meant = meant-none s; fits = λ head done. over_arguments-none s head done }
 come s p none (v ∷ later) b = absurd b
 come s p (more e es) [] b = absurd b
 come s p (more e es) (Function f ∷ later) b =
@@ -142,10 +218,12 @@ come s p (more e es) (Function f ∷ later) b =
     record {
       walked = walks-more s e es ∙ or_nones (walk s e) (walks s es) b.0.0 c.walked;
       is_meant = meant-more s e es ∙ ap (λ g. means.Function g ∷ meant s es) same ∙ ap (λ l. means.Function (meaning p f) ∷ l) c.is_meant;
-      fits = λ head done n.
+      fits = λ head done.
           over_arguments-more s head done e es
-          ∙ or_nones (first_failure (fold_step head done)) _ (unnested head done n)
-          (or_nones (over s e) _ b.0.1.fits (c.fits head (done ++ means.Function (flat (part s e)) ∷ []) n));
+          ∙ ap (option_or (first_failure (fold_step head done)))
+          (or_second (over s e) _ _ b.0.1.fits
+          (c.fits head (done ++ means.Function (flat (part s e)) ∷ []) ∙ ap (λ g. first_failure (steps_behind head (done ++ means.Function g ∷ []) (meanings p later))) same))
+          ∙ sym (first_failure-append (fold_step head done) (steps_behind head (done ++ means.Function (meaning p f) ∷ []) (meanings p later)));
     }
 come s p (more e es) (Position i ∷ later) b = absurd b
 come s p (more e es) (Number n ∷ later) b = absurd b
@@ -158,10 +236,10 @@ come s p (atom a es) (Number n ∷ later) b = come_atom s p a es (Number n) late
 abbrev IsBuilt : State → Tree → Package → Func → Type 0
 IsBuilt s e p f = (walk s e ≡ None) × Builds s e p f
 
--- a call that isn't nested calls
-one_built : (s : State) (head : Head) (es : Arguments) (p : Package) (args : List Value) (r : Func) → is_nested head ≡ false → AreBuilt s p es args
+-- a call on values
+one_built : (s : State) (head : Head) (es : Arguments) (p : Package) (args : List Value) (r : Func) → AreBuilt s p es args
     → Done p head args r → IsBuilt s (Call head es) p r
-one_built s head es p args r n b done =
+one_built s head es p args r b done =
     let c = come s p es args b in
     let is : part s (Call head es) ≡ call head (meanings p args) = part-Call s head es ∙ ap (call head) c.is_meant in
     let gives : GivesTree s (Call head es) (meaning p r) = subst (λ (x : Part). Gives x (meaning p r)) (sym is) done.calls.gives in (
@@ -169,7 +247,7 @@ one_built s head es p args r n b done =
       record {
         owned = done.calls.owned;
         gives = gives;
-        fits = over-Call s head es ∙ or_nones (over_arguments s head [] es) (failure (part s (Call head es))) (c.fits head [] n) (gives-never (part s (Call head es)) (meaning p r) gives);
+        fits = over-Call s head es ∙ or_nones (over_arguments s head [] es) (failure (part s (Call head es))) (c.fits head [] ∙ done.calls.fits) (gives-never (part s (Call head es)) (meaning p r) gives);
       },
     )
 
@@ -230,10 +308,6 @@ nested_built s p law word (more e es) f later r formed b k =
 nested_built s p law word (atom a es) f later r formed b k = absurd b
 
 -- an expression without arguments
-below : (i : ℤ) (n : ℕ) → pos 0 ≤ℤ i → nat_abs i < n → is_below i n ≡ true
-below (pos m) n low h = grind (arith, nat_tests)
-below (negsuc m) n low h = absurd (omega (arith, ints, low))
-
 number_there : (s : State) (p : Package) → Lawful p → (n : ℤ) (f : Func) → IsRemembered p (task.Const (level_in s) n) f → IsBuilt s (Num n) p f
 number_there s p law n f k =
     let done = law.finished (task.Const (level_in s) n) f k in (
@@ -265,6 +339,57 @@ name_there h law name f k =
       name_built s name h.pkg f k.owned k.means (law.flat f k.owned),
     )
 
+-- positions of formed arguments aren't negative
+abbrev position_in : Meant → ℤ → ℤ
+position_in (means.Position i) d = i
+position_in other d = d
+
+named_natural : (n : ℕ) (i : ℤ) → means.Position (pos n) ≡ means.Position i → pos 0 ≤ℤ i
+named_natural n i e =
+    let at_least : pos 0 ≤ℤ pos n = omega (arith, ints) in
+    subst (λ z. pos 0 ≤ℤ z) (ap (λ m. position_in m i) e) at_least
+
+placed_natural : (kind : Kind) (j i : ℤ) → IsFormedAtom kind (tree.Position j) → means.Position j ≡ means.Position i → pos 0 ≤ℤ i
+placed_natural AnExpression j i h e = absurd h
+placed_natural AVariable j i h e = subst (λ z. pos 0 ≤ℤ z) (ap (λ m. position_in m i) e) h.0
+placed_natural ANatural j i h e = absurd h
+placed_natural ANumber j i h e = absurd h
+placed_natural ABit j i h e = absurd h
+
+atom_natural : (s : State) (kind : Kind) (a : Atom) (i : ℤ) → IsFormedAtom kind a → meant_atom s a ≡ means.Position i → pos 0 ≤ℤ i
+atom_natural s kind (Variable name) i h e = named_natural (unwrap_or (position_of s.variables name) 0) i e
+atom_natural s kind (tree.Position j) i h e = placed_natural kind j i h e
+atom_natural s kind (tree.Number n) i h e = cc
+
+all_natural : (s : State) (p : Package) (head : Head) (place : ℕ) (es : Arguments) (args : List Value) → AreFormed head place es → AreBuilt s p es args → AreNatural args
+all_natural s p head place none [] formed b = tt
+all_natural s p head place none (v ∷ later) formed b = absurd b
+all_natural s p head place (more e es) [] formed b = absurd b
+all_natural s p head place (more e es) (Function f ∷ later) formed b = all_natural s p head (suc place) es later formed.2 b.1
+all_natural s p head place (more e es) (Position i ∷ later) formed b = absurd b
+all_natural s p head place (more e es) (Number n ∷ later) formed b = absurd b
+all_natural s p head place (atom a es) [] formed b = absurd b
+all_natural s p head place (atom a es) (Function f ∷ later) formed b = absurd b
+all_natural s p head place (atom a es) (Position i ∷ later) formed b =
+    (atom_natural s (kind_at head place) a i formed.0 b.0.1, all_natural s p head (suc place) es later formed.1 b.1)
+all_natural s p head place (atom a es) (Number n ∷ later) formed b = all_natural s p head (suc place) es later formed.1 b.1
+
+-- What is known of the values of a formed call.
+record There (s : State) (p : Package) (head : Head) (es : Arguments) (args : List Value) : Type 0 where
+  pub built : AreBuilt s p es args
+  pub natural : AreNatural args
+  pub kinds : AreOf (signature head).first (signature head).further args
+
+there : (s : State) (p : Package) (head : Head) (es : Arguments) (args others : List Value) → args ≡ others → IsFormed (Call head es) → AreBuilt s p es args → There s p head es others
+there s p head es args others is formed b =
+    let built = subst (AreBuilt s p es) is b in
+    record {
+      built = built;
+      natural = all_natural s p head 0 es others formed.1 built;
+      kinds = of_kinds p (signature head).first (signature head).further others
+          (subst (OfKinds (signature head).first (signature head).further) (come s p es others built).is_meant (of-formed s head es formed.0 formed.1));
+    }
+
 -- a call of values
 call_there : (s : State) (p : Package) → Lawful p → (head : Head) (es : Arguments) (args : List Value) (r : Func) → IsFormed (Call head es) → AreBuilt s p es args
     → IsCallKept p head args r → IsBuilt s (Call head es) p r
@@ -274,10 +399,10 @@ call_there s p law Const es (Position i ∷ later) r formed b k = absurd (none-s
 call_there s p law Const es (Number l ∷ []) r formed b k = absurd (none-some k.0 k.1)
 call_there s p law Const es (Number l ∷ Function f ∷ later) r formed b k = absurd (none-some k.0 k.1)
 call_there s p law Const es (Number l ∷ Position i ∷ later) r formed b k = absurd (none-some k.0 k.1)
-call_there s p law Const es (Number l ∷ Number n ∷ []) r formed b k = one_built s Const es p (Number l ∷ Number n ∷ []) r refl b (const_done p law l n r k)
+call_there s p law Const es (Number l ∷ Number n ∷ []) r formed b k = one_built s Const es p (Number l ∷ Number n ∷ []) r b (const_done p law l n r k)
 call_there s p law Const es (Number l ∷ Number n ∷ v ∷ later) r formed b k = absurd (none-some k.0 k.1)
 call_there s p law (One word) es [] r formed b k = absurd (none-some k.0 k.1)
-call_there s p law (One word) es (Function f ∷ []) r formed b k = one_built s (One word) es p (Function f ∷ []) r refl b (one_done p law word f r k)
+call_there s p law (One word) es (Function f ∷ []) r formed b k = one_built s (One word) es p (Function f ∷ []) r b (one_done p law word f r k)
 call_there s p law (One word) es (Function f ∷ v ∷ later) r formed b k = absurd (none-some k.0 k.1)
 call_there s p law (One word) es (Position i ∷ later) r formed b k = absurd (none-some k.0 k.1)
 call_there s p law (One word) es (Number n ∷ later) r formed b k = absurd (none-some k.0 k.1)
@@ -295,45 +420,44 @@ call_there s p law Ite es (Function f ∷ Function g ∷ []) r formed b k = absu
 call_there s p law Ite es (Function f ∷ Function g ∷ Position i ∷ later) r formed b k = absurd (none-some k.0 k.1)
 call_there s p law Ite es (Function f ∷ Function g ∷ Number n ∷ later) r formed b k = absurd (none-some k.0 k.1)
 call_there s p law Ite es (Function f ∷ Function g ∷ Function h ∷ []) r formed b k =
-    one_built s Ite es p (Function f ∷ Function g ∷ Function h ∷ []) r refl b (choice_done p law f g h r k)
+    one_built s Ite es p (Function f ∷ Function g ∷ Function h ∷ []) r b (choice_done p law f g h r k)
 call_there s p law Ite es (Function f ∷ Function g ∷ Function h ∷ v ∷ later) r formed b k = absurd (none-some k.0 k.1)
+call_there s p law Restrict es args r formed b k =
+    let h = restrict_shape p args r k in
+    let others = Function h.0 ∷ Position h.1 ∷ Number h.2 ∷ [] in
+    let t = there s p Restrict es args others h.3 formed b in
+    one_built s Restrict es p others r t.built (restrict_done p law h.0 h.1 h.2 r t.natural.0 h.4)
+call_there s p law Exists es args r formed b k =
+    let h = exists_shape p args r k in
+    let others = Function h.0.f ∷ Position h.0.i ∷ h.0.vars in
+    let t = there s p Exists es args others h.0.are formed b in
+    one_built s Exists es p others r t.built (exists_done p law h.0.f h.0.i h.0.vars r t.natural (tt, t.kinds.1.1) h.1)
+call_there s p law Forall es args r formed b k =
+    let h = forall_shape p args r k in
+    let others = Function h.0.f ∷ Position h.0.i ∷ h.0.vars in
+    let t = there s p Forall es args others h.0.are formed b in
+    one_built s Forall es p others r t.built (forall_done p law h.0.f h.0.i h.0.vars r t.natural (tt, t.kinds.1.1) h.1)
+call_there s p law SumOut es args r formed b k =
+    let h = sum_shape p args r k in
+    let others = Function h.0.f ∷ Position h.0.i ∷ h.0.vars in
+    let t = there s p SumOut es args others h.0.are formed b in
+    one_built s SumOut es p others r t.built (sum_done p law h.0.f h.0.i h.0.vars r t.natural (tt, t.kinds.1.1) h.1)
+call_there s p law Compose es args r formed b k =
+    let h = compose_shape p args r k in
+    let others = Function h.0 ∷ Position h.1 ∷ Function h.2 ∷ [] in
+    let t = there s p Compose es args others h.3 formed b in
+    one_built s Compose es p others r t.built (compose_done p law h.0 h.1 h.2 r t.natural.0 h.4)
+call_there s p law AndExists es args r formed b k =
+    let h = joined_shape p args r k in
+    let others = Function h.0 ∷ Function h.3.f ∷ Position h.3.i ∷ h.3.vars in
+    let t = there s p AndExists es args others (h.2 ∙ ap (λ l. Function h.0 ∷ l) h.3.are) formed b in
+    one_built s AndExists es p others r t.built (joined_done p law h.0 h.3.f h.3.i h.3.vars r t.natural (tt, t.kinds.1.1.1) h.4)
 
--- no head takes a variable
-pair_none : (name : List ℕ) (i : ℕ) → IsFormedAtom (kind_in (AnExpression ∷ AnExpression ∷ []) None i) (Variable name) → ⊥
-pair_none name zero h = h
-pair_none name (suc zero) h = h
-pair_none name (suc (suc i)) h = h
-
-pair_more : (name : List ℕ) (i : ℕ) → IsFormedAtom (kind_in (AnExpression ∷ AnExpression ∷ []) (Some AnExpression) i) (Variable name) → ⊥
-pair_more name zero h = h
-pair_more name (suc zero) h = h
-pair_more name (suc (suc i)) h = h
-
-no_variable : (head : Head) (i : ℕ) (name : List ℕ) → IsFormedAtom (kind_at head i) (Variable name) → ⊥
-no_variable Const zero name h = h
-no_variable Const (suc zero) name h = h
-no_variable Const (suc (suc i)) name h = h
-no_variable (One word) zero name h = h
-no_variable (One word) (suc i) name h = h
-no_variable (Fold And) i name h = pair_more name i h
-no_variable (Fold Or) i name h = pair_more name i h
-no_variable (Fold Xor) i name h = pair_more name i h
-no_variable (Fold Plus) i name h = pair_more name i h
-no_variable (Fold Minus) i name h = pair_none name i h
-no_variable (Fold Times) i name h = pair_more name i h
-no_variable (Fold Min) i name h = pair_more name i h
-no_variable (Fold Max) i name h = pair_more name i h
-no_variable (Fold Eq) i name h = pair_none name i h
-no_variable (Fold Lt) i name h = pair_none name i h
-no_variable Ite zero name h = h
-no_variable Ite (suc zero) name h = h
-no_variable Ite (suc (suc zero)) name h = h
-no_variable Ite (suc (suc (suc i))) name h = h
-
-atom_walked : (s : State) (head : Head) (i : ℕ) (a : Atom) → IsFormedAtom (kind_at head i) a → walk_atom s a ≡ None
-atom_walked s head i (Variable name) h = absurd (no_variable head i name h)
-atom_walked s head i (tree.Position j) h = refl
-atom_walked s head i (tree.Number n) h = refl
+-- an atom that is a number isn't refused
+number_walked : (s : State) (a : Atom) (n : ℤ) → meant_atom s a ≡ means.Number n → walk_atom s a ≡ None
+number_walked s (Variable name) n e = cc
+number_walked s (tree.Position j) n e = cc
+number_walked s (tree.Number m) n e = refl
 
 mutual
   -- A kept expression isn't refused, and its function is built.
@@ -356,19 +480,20 @@ mutual
   all_built (atom a es) h law head i [] formed k = absurd k
   all_built (atom a es) h law head i (Function f ∷ args) formed k = absurd k
   all_built (atom a es) h law head i (Position p ∷ args) formed k =
-      ((atom_walked (state_of h) head i a formed.0, k.0), all_built es h law head (suc i) args formed.1 k.1)
+      ((k.0.walked, k.0.is_it), all_built es h law head (suc i) args formed.1 k.1)
   all_built (atom a es) h law head i (Number n ∷ args) formed k =
-      ((atom_walked (state_of h) head i a formed.0, k.0), all_built es h law head (suc i) args formed.1 k.1)
-
--- Each finished job of a package is in order, and its function has its values.
-abbrev pub AreFinished : Package → Type 0
-AreFinished p = (t : Task) (f : Func) → IsRemembered p t f → Finishes p t f
+      ((number_walked (state_of h) a n k.0, k.0), all_built es h law head (suc i) args formed.1 k.1)
 
 -- The function of a kept expression is the package's.
 steps_owned : (p : Package) → AreFinished p → (word : Word2) (f : Func) (later : List Value) (r : Func) → OwnsFunction p f → AreStepsKept p (Fold word) f later r
     → OwnsFunction p r
 steps_owned p fin word f [] r owned k = subst (OwnsFunction p) (sym k) owned
 steps_owned p fin word f (v ∷ later) r owned k = steps_owned p fin word k.0 later r (fin k.1.0 k.0 k.1.2).values.owned k.2
+
+quantified_owned : (p : Package) → AreFinished p → (word : Word2) (f : Func) (i : ℕ) (vars : List ℕ) (r : Func) → AreQuantified p word f (i ∷ vars) r → OwnsFunction p r
+quantified_owned p fin word f i [] r q =
+    subst (OwnsFunction p) (sym q.2) (fin (task.Apply (of_two word) q.1.low q.1.high) q.0 q.1.joined_is).values.owned
+quantified_owned p fin word f i (j ∷ vars) r q = quantified_owned p fin word q.0 j vars r q.2
 
 -- The first value of a fold is a function, so no fold of an atom is kept.
 first_is_atom : (h : Held) (a : Atom) (es : Arguments) (word : Word2) (args : List Value) (r : Func) → AreKept h (atom a es) args → IsCallKept h.pkg (Fold word) args r → ⊥
@@ -389,6 +514,16 @@ kept_owned (Call (Fold word) (more e es)) h fin f k =
     steps_owned h.pkg fin word split.0 split.1 f (kept_owned e h fin split.0 split.3) (subst (λ l. IsCallKept h.pkg (Fold word) l f) split.2 k.2)
 kept_owned (Call (Fold word) (atom a es)) h fin f k = absurd (first_is_atom h a es word k.0 f k.1 k.2)
 kept_owned (Call Ite es) h fin f k = (fin k.2.0 f k.2.2).values.owned
+kept_owned (Call Restrict es) h fin f k = (fin k.2.0 f k.2.2).values.owned
+kept_owned (Call Exists es) h fin f k = let s = exists_shape h.pkg k.0 f k.2 in quantified_owned h.pkg fin Or s.0.f (nat_abs s.0.i) (places_of s.0.vars) f s.1
+kept_owned (Call Forall es) h fin f k = let s = forall_shape h.pkg k.0 f k.2 in quantified_owned h.pkg fin And s.0.f (nat_abs s.0.i) (places_of s.0.vars) f s.1
+kept_owned (Call SumOut es) h fin f k = let s = sum_shape h.pkg k.0 f k.2 in quantified_owned h.pkg fin Plus s.0.f (nat_abs s.0.i) (places_of s.0.vars) f s.1
+kept_owned (Call Compose es) h fin f k =
+    let s = compose_shape h.pkg k.0 f k.2 in
+    (fin (task.Ternary of_three s.2 s.4.high s.4.low) f s.4.chosen_is).values.owned
+kept_owned (Call AndExists es) h fin f k =
+    let s = joined_shape h.pkg k.0 f k.2 in
+    quantified_owned h.pkg fin Or s.4.product (nat_abs s.3.i) (places_of s.3.vars) f s.4.quantified
 
 -- Nothing refuses a kept expression.
 pub kept_goes : (h : Held) (e : Tree) → Lawful h.pkg → (f : Func) → is_some h.level ≡ true → IsFormed e → IsKept h e f → refusal_of (state_of h) e ≡ None

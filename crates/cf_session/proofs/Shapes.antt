@@ -6,7 +6,7 @@ use Rattle.cf_model.specs.FlatFunctions.{FlatFunction}
 use Rattle.cf_model.specs.declared.terms.Word2.{Word2}
 use Rattle.cf_model.specs.declared.terms.Word2.TheVariants.{And, Or, Xor, Plus, Minus, Times, Min, Max, Eq, Lt}
 use Rattle.cf_reference.specs.declared.grammar.Head.{Head}
-use Rattle.cf_reference.specs.declared.grammar.Head.TheVariants.{Const, One, Fold, Ite}
+use Rattle.cf_reference.specs.declared.grammar.Head.TheVariants.{Const, One, Fold, Ite, Restrict, Exists, Forall, SumOut, Compose, AndExists}
 use Rattle.cf_reference.specs.Heads.{signature, counted, takes, kind_in, kind_at}
 use Rattle.cf_reference.specs.declared.grammar.Kind.{Kind}
 use Rattle.cf_reference.specs.declared.grammar.Kind.TheVariants.{Expression as AnExpression, Variable as AVariable, Natural as ANatural, Number as ANumber, Bit as ABit}
@@ -86,6 +86,20 @@ first_function kinds further (Function f ∷ later) h = (f, later, refl, h.1)
 first_function kinds further (Position i ∷ later) h = absurd h.0
 first_function kinds further (Number n ∷ later) h = absurd h.0
 
+first_position : (kinds : List Kind) (further : Option Kind) (args : List Meant) → OfKinds (AVariable ∷ kinds) further args
+    → (i : ℤ) × (later : List Meant) × (args ≡ Position i ∷ later) × OfKinds kinds further later
+first_position kinds further [] h = absurd h
+first_position kinds further (Function f ∷ later) h = absurd h.0
+first_position kinds further (Position i ∷ later) h = (i, later, refl, h.1)
+first_position kinds further (Number n ∷ later) h = absurd h.0
+
+first_bit : (kinds : List Kind) (further : Option Kind) (args : List Meant) → OfKinds (ABit ∷ kinds) further args
+    → (n : ℤ) × (later : List Meant) × (args ≡ Number n ∷ later) × OfKinds kinds further later
+first_bit kinds further [] h = absurd h
+first_bit kinds further (Function f ∷ later) h = absurd h.0
+first_bit kinds further (Position i ∷ later) h = absurd h.0
+first_bit kinds further (Number n ∷ later) h = (n, later, refl, h.1)
+
 no_more : (args : List Meant) → OfKinds [] None args → args ≡ []
 no_more [] h = refl
 no_more (m ∷ later) h = absurd h
@@ -118,6 +132,22 @@ three_functions args h =
     let b = two_functions a.1 a.3 in
     (a.0, b.0, b.1, a.2 ∙ ap (λ l. Function a.0 ∷ l) b.2)
 
+pub function_position_bit : (args : List Meant) → OfKinds (AnExpression ∷ AVariable ∷ ABit ∷ []) None args
+    → (f : FlatFunction) × (i : ℤ) × (n : ℤ) × (args ≡ Function f ∷ Position i ∷ Number n ∷ [])
+function_position_bit args h =
+    let a = first_function (AVariable ∷ ABit ∷ []) None args h in
+    let b = first_position (ABit ∷ []) None a.1 a.3 in
+    let c = first_bit [] None b.1 b.3 in
+    (a.0, b.0, c.0, a.2 ∙ ap (λ l. Function a.0 ∷ l) (b.2 ∙ ap (λ l. Position b.0 ∷ l) (c.2 ∙ ap (λ l. Number c.0 ∷ l) (no_more c.1 c.3))))
+
+pub function_position_function : (args : List Meant) → OfKinds (AnExpression ∷ AVariable ∷ AnExpression ∷ []) None args
+    → (f : FlatFunction) × (i : ℤ) × (g : FlatFunction) × (args ≡ Function f ∷ Position i ∷ Function g ∷ [])
+function_position_function args h =
+    let a = first_function (AVariable ∷ AnExpression ∷ []) None args h in
+    let b = first_position (AnExpression ∷ []) None a.1 a.3 in
+    let c = one_function b.1 b.3 in
+    (a.0, b.0, c.0, a.2 ∙ ap (λ l. Function a.0 ∷ l) (b.2 ∙ ap (λ l. Position b.0 ∷ l) c.1))
+
 first_of_fold : (word : Word2) (args : List Meant) → OfKinds (signature (Fold word)).first (signature (Fold word)).further args
     → (f : FlatFunction) × (later : List Meant) × (args ≡ Function f ∷ later)
 first_of_fold Minus args h = let a = first_function (AnExpression ∷ []) None args h in (a.0, a.1, a.2)
@@ -137,3 +167,12 @@ levelled Const args h = let a = two_numbers args h in subst (IsLevelled Const) (
 levelled (One word) args h = let a = one_function args h in subst (IsLevelled (One word)) (sym a.1) refl
 levelled (Fold word) args h = let a = first_of_fold word args h in subst (IsLevelled (Fold word)) (sym a.2) refl
 levelled Ite args h = let a = three_functions args h in subst (IsLevelled Ite) (sym a.3) refl
+levelled Restrict args h = let a = function_position_bit args h in subst (IsLevelled Restrict) (sym a.3) refl
+levelled Exists args h = let a = first_function (AVariable ∷ []) (Some AVariable) args h in subst (IsLevelled Exists) (sym a.2) refl
+levelled Forall args h = let a = first_function (AVariable ∷ []) (Some AVariable) args h in subst (IsLevelled Forall) (sym a.2) refl
+levelled SumOut args h = let a = first_function (AVariable ∷ []) (Some AVariable) args h in subst (IsLevelled SumOut) (sym a.2) refl
+levelled Compose args h = let a = function_position_function args h in subst (IsLevelled Compose) (sym a.3) refl
+levelled AndExists args h =
+    let a = first_function (AnExpression ∷ AVariable ∷ []) (Some AVariable) args h in
+    let b = first_function (AVariable ∷ []) (Some AVariable) a.1 a.3 in
+    subst (IsLevelled AndExists) (sym (a.2 ∙ ap (λ l. Function a.0 ∷ l) b.2)) refl

@@ -3,7 +3,7 @@ use Rattle.std.proofs.Common.{ℕ, suc, ◌+◌, ◌≤◌, ◌<◌, ◌≡◌, 
 use Rattle.cf_pkg.specs.declared.Func.{Func}
 use Rattle.cf_pkg.specs.Packages.{Package}
 use Rattle.cf_reference.specs.declared.grammar.Head.{Head}
-use Rattle.cf_reference.specs.Calls.{is_nested}
+use Rattle.cf_session.specs.Arguments.{is_fold}
 use Rattle.cf_reference.specs.Trees.{Tree, Arguments, Call, more, IsFormed}
 use Rattle.cf_reference.specs.States.{State}
 use Rattle.cf_reference.specs.Expressions.{walk}
@@ -15,7 +15,7 @@ use Rattle.cf_session.proofs.Nesting.{Nesting, nesting_begins, nesting_kept, nes
 use Rattle.cf_session.proofs.Listed.{later, first_and_later, next_of, none_left}
 
 -- the first argument is there
-pub begins : (s : State) (head : Head) (es : List Expr) (e : Expr) (p : Package) (f : Func) → is_nested head ≡ true → e ≡ get_or es 0 e → 1 ≤ length es
+pub begins : (s : State) (head : Head) (es : List Expr) (e : Expr) (p : Package) (f : Func) → is_fold head ≡ true → e ≡ get_or es 0 e → 1 ≤ length es
     → IsFormed (Call head (listed es)) → walk s (Call head (listed es)) ≡ None → Builds s (tree_of e) p f
     → Nesting s head (listed es) p f (listed (later es))
 begins s head es e p f n is long formed walked b =

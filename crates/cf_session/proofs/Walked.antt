@@ -22,7 +22,7 @@ right false b e = absurd (false≢true e)
 less : (m k : ℕ) → nat_lt m k ≡ true → m < k
 less m k e = grind (arith, nat_tests)
 
-below_is : (j : ℤ) (n : ℕ) → is_below j n ≡ true → nat_abs j < n
+pub below_is : (j : ℤ) (n : ℕ) → is_below j n ≡ true → nat_abs j < n
 below_is (pos m) n e = less m n (right (int_le (pos 0) (pos m)) (int_lt (pos m) (pos n)) e)
 below_is (negsuc m) n e = absurd (false≢true e)
 

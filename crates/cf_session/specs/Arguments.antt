@@ -1,10 +1,11 @@
-use Rattle.std.specs.Prelude.{◌≡◌, ℕ, zero, suc, List, [], ◌∷◌, true, false, Option, Some, None}
+use Rattle.std.specs.Prelude.{◌≡◌, ℕ, zero, suc, List, [], ◌∷◌, Bool, true, false, Option, Some, None}
 use Rattle.cf_reference.specs.declared.grammar.Head.{Head}
+use Rattle.cf_reference.specs.declared.grammar.Head.TheVariants.{Fold}
 use Rattle.cf_reference.specs.declared.grammar.Kind.{Kind}
 use Rattle.cf_reference.specs.declared.grammar.Kind.TheVariants.{Expression as AnExpression, Variable as AVariable, Natural as ANatural, Number as ANumber, Bit as ABit}
 use Rattle.cf_reference.specs.Trees.{Tree, Num, At, Named, Call, Arguments, none, more, atom}
 use Rattle.cf_reference.specs.Trees as tree
-use Rattle.cf_reference.specs.Calls.{Meant, Function, Position, Number, is_nested}
+use Rattle.cf_reference.specs.Calls.{Meant, Function, Position, Number}
 use Rattle.cf_script.specs.Vars.{atom_of}
 use Rattle.cf_script.specs.Views.{tree_of, listed}
 use Rattle.cf_session.specs.declared.arguments.Form.{Form}
@@ -38,14 +39,19 @@ before (given.Number n) later = atom (tree.Number n) later
 abbrev pub StandsAt : ℕ → Arguments → Given → Type 0
 StandsAt place es given = from_place place es ≡ before given (from_place (suc place) es)
 
+-- whether a head is nested calls of two expressions
+abbrev pub is_fold : Head → Bool
+is_fold (Fold word) = true
+is_fold other = false
+
 -- a form is that of an expression
 abbrev pub IsForm : Form → Tree → Type 0
 IsForm (form.Num n) t = t ≡ Num n
 IsForm (form.At i) t = t ≡ At i
 IsForm (form.Named name) t = t ≡ Named name.now
 IsForm (form.Nested head es) t =
-    (t ≡ Call head (arguments_of t)) × (arguments_of t ≡ listed es.now) × (is_nested head ≡ true)
-IsForm (form.Call head) t = (t ≡ Call head (arguments_of t)) × (is_nested head ≡ false)
+    (t ≡ Call head (arguments_of t)) × (arguments_of t ≡ listed es.now) × (is_fold head ≡ true)
+IsForm (form.Call head) t = (t ≡ Call head (arguments_of t)) × (is_fold head ≡ false)
 
 -- what an argument means is of a kind
 abbrev pub IsOf : Kind → Meant → Type 0

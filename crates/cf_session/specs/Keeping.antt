@@ -1,13 +1,16 @@
 use Rattle.std.specs.Prelude.{◌≡◌, nat_abs, is_some, List, [], ◌∷◌, Option, Some, None, Result, Ok, Err, IfOk, IfErr}
 use Rattle.std.specs.Option.{option_or}
+use Rattle.cf_model.specs.Terms.{is_true}
+use Rattle.cf_model.specs.declared.terms.Word2.TheVariants.{And, Or, Plus}
 use Rattle.cf_ops.specs.Operations.{of_one, of_two, of_three}
 use Rattle.cf_pkg.specs.declared.Func.{Func}
 use Rattle.cf_pkg.specs.Tasks.{Task}
 use Rattle.cf_pkg.specs.Tasks as task
 use Rattle.cf_pkg.specs.Packages.{Package, IsRemembered}
 use Rattle.cf_pkg.specs.Jobs.{AnswersFinished}
+use Rattle.cf_restrict.specs.Quantified.{AreQuantified, IsComposed, IsJoined}
 use Rattle.cf_reference.specs.declared.grammar.Head.{Head}
-use Rattle.cf_reference.specs.declared.grammar.Head.TheVariants.{Const, One, Fold, Ite}
+use Rattle.cf_reference.specs.declared.grammar.Head.TheVariants.{Const, One, Fold, Ite, Restrict, Exists, Forall, SumOut, Compose, AndExists}
 use Rattle.cf_reference.specs.Trees.{Tree, Num, At, Named, Call, Arguments, none, more, atom}
 use Rattle.cf_reference.specs.Calls as means
 use Rattle.cf_reference.specs.Reasons.{NoLevel, unless}
@@ -19,23 +22,34 @@ use Rattle.cf_session.specs.declared.values.Value.{Value}
 use Rattle.cf_session.specs.declared.values.Value.TheVariants.{Function, Position, Number}
 use Rattle.cf_session.specs.Faults.{reason_of}
 use Rattle.cf_session.specs.Sessions.{Held, state_of, StandsFor}
+use Rattle.cf_session.specs.Values.{places_of}
+use Rattle.cf_session.specs.Walks.{HasPosition}
 
 -- An expression is built by these jobs, in reading order: a number or `const` is `Const`; `@i` is `Var`; `not` and `neg`
--- are `Map` with the word's tree; each step of a fold is `Apply` with the word's tree; `ite` is `Ternary` with the choice's
--- tree. A name has none. The jobs are taken in a session: level and positions are those of the session's state, a name's
--- function is the one that it stands for, and an earlier job's function is the one that the memo gives for it. An
--- expression is kept if each of its jobs, taken so, is in the memo of the session's package.
+-- are `Map` with the word's tree; each step of a fold is `Apply` with the word's tree; `ite` is `Ternary` with the
+-- choice's tree; `restrict` is `Restrict`. `exists`, `forall` and `sumout` are for each variable in turn both
+-- restrictions, and `Apply` with the tree of `or`, `and` or `plus`; `andexists` is `Apply` with the tree of `and`, and
+-- then as `exists`; `compose` is both restrictions and `Ternary` with the choice's tree. A name has none. The jobs are
+-- taken in a session: level and positions are those of the session's state, a name's function is the one that it stands
+-- for, and an earlier job's function is the one that the memo gives for it. An expression is kept if each of its jobs,
+-- taken so, is in the memo of the session's package.
 
--- the job of a head on values, of two functions where calls nest
+-- the job of a head on values, of two functions for a fold, where the head has one job
 abbrev pub call_task : Head → List Value → Option Task
 call_task Const (Number level ∷ Number n ∷ []) = Some (task.Const (nat_abs level) n)
 call_task (One word) (Function f ∷ []) = Some (task.Map (of_one word) f)
 call_task (Fold word) (Function f ∷ Function g ∷ []) = Some (task.Apply (of_two word) f g)
 call_task Ite (Function f ∷ Function g ∷ Function h ∷ []) = Some (task.Ternary of_three f g h)
+call_task Restrict (Function f ∷ Position i ∷ Number b ∷ []) = Some (task.Restrict f (nat_abs i) (is_true b))
 call_task head others = None
 
--- The job of a head on values is remembered, with this function.
+-- The job of a head on values is remembered, with this function, or each of its jobs, with this function at the end.
 abbrev pub IsJobKept : Package → Head → List Value → Func → Type 0
+IsJobKept p Exists (Function f ∷ Position i ∷ vars) r = AreQuantified p Or f (nat_abs i ∷ places_of vars) r
+IsJobKept p Forall (Function f ∷ Position i ∷ vars) r = AreQuantified p And f (nat_abs i ∷ places_of vars) r
+IsJobKept p SumOut (Function f ∷ Position i ∷ vars) r = AreQuantified p Plus f (nat_abs i ∷ places_of vars) r
+IsJobKept p Compose (Function f ∷ Position i ∷ Function g ∷ []) r = IsComposed p f (nat_abs i) g r
+IsJobKept p AndExists (Function f ∷ Function g ∷ Position i ∷ vars) r = IsJoined p f g (nat_abs i ∷ places_of vars) r
 IsJobKept p head args r = (t : Task) × (call_task head args ≡ Some t) × IsRemembered p t r
 
 -- The steps of nested calls are remembered: the function so far and the next value give the next function, and the last one
@@ -45,7 +59,7 @@ AreStepsKept p head f [] r = r ≡ f
 AreStepsKept p head f (v ∷ later) r =
     (step : Func) × IsJobKept p head (Function f ∷ v ∷ []) step × AreStepsKept p head step later r
 
--- The jobs of a call on these values are remembered, and r is the function of the last: the steps of a fold, or the one job
+-- The jobs of a call on these values are remembered, and r is the function of the last: the steps of a fold, or the jobs
 -- of another head.
 abbrev pub IsCallKept : Package → Head → List Value → Func → Type 0
 IsCallKept p (Fold word) (Function f ∷ later) r = AreStepsKept p (Fold word) f later r
@@ -66,7 +80,7 @@ abbrev mutual
   AreKept h none (v ∷ later) = ⊥
   AreKept h (more e es) (Function f ∷ later) = IsKept h e f × AreKept h es later
   AreKept h (more e es) others = ⊥
-  AreKept h (atom a es) (Position i ∷ later) = (meant_atom (state_of h) a ≡ means.Position i) × AreKept h es later
+  AreKept h (atom a es) (Position i ∷ later) = HasPosition (state_of h) a i × AreKept h es later
   AreKept h (atom a es) (Number n ∷ later) = (meant_atom (state_of h) a ≡ means.Number n) × AreKept h es later
   AreKept h (atom a es) others = ⊥
 
@@ -74,16 +88,17 @@ abbrev mutual
 abbrev pub AnswersJob : {E : Type 0} → (before now : Held) → Task → Result Func E → Type 0
 AnswersJob before now t result = AnswersFinished before.pkg now.pkg t result
 
--- Where the job of a call was remembered, the answer is its function, and nothing changed.
-abbrev pub AnswersCall : (before now : Held) → Head → List Value → Result Func StepFault → Type 0
-AnswersCall before now head args result =
-    (f : Func) → IsJobKept before.pkg head args f → (result ≡ Ok f) × (now ≡ before)
-
 -- The answer is the function or that there was no memory, and nothing changed.
 abbrev pub Repeats : (before now : Held) → Func → Result Func StepFault → Type 0
 Repeats before now f (Ok g) = (g ≡ f) × (now ≡ before)
 Repeats before now f (Err NoMemory) = now ≡ before
 Repeats before now f (Err (Refused r)) = ⊥
+
+-- Where the jobs of a call were remembered, their function is answered, unless there is no memory for the list of its
+-- variables, and nothing changed.
+abbrev pub AnswersCall : (before now : Held) → Head → List Value → Result Func StepFault → Type 0
+AnswersCall before now head args result =
+    (f : Func) → IsJobKept before.pkg head args f → Repeats before now f result
 
 -- Where an expression was kept that nothing but overflow can refuse, its function is answered, unless there is no memory
 -- for the list of its arguments, and nothing changed.

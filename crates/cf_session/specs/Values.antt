@@ -1,10 +1,10 @@
-use Rattle.std.specs.Prelude.{◌≡◌, List, [], ◌∷◌, Option, Some, None}
+use Rattle.std.specs.Prelude.{◌≡◌, ℕ, nat_abs, List, [], ◌∷◌, ◌++◌, Option, Some, None}
 use Rattle.cf_model.specs.FlatFunctions.{IsFlatFunction}
 use Rattle.cf_reference.specs.declared.grammar.Head.{Head}
 use Rattle.cf_reference.specs.declared.grammar.Kind.{Kind}
 use Rattle.cf_reference.specs.declared.grammar.Kind.TheVariants.{Expression as AnExpression, Variable as AVariable, Natural as ANatural, Number as ANumber, Bit as ABit}
-use Rattle.cf_reference.specs.Calls.{Meant, Function, Position, Number, call}
-use Rattle.cf_reference.specs.Failures.{failure}
+use Rattle.cf_reference.specs.Calls.{Part, Meant, Function, Position, Number, call}
+use Rattle.cf_reference.specs.Failures.{first_failure, fold_step}
 use Rattle.cf_reference.specs.Gives.{Gives}
 use Rattle.cf_pkg.specs.declared.Func.{Func}
 use Rattle.cf_pkg.specs.Packages.{Package, OwnsFunction, meaning}
@@ -22,6 +22,12 @@ meaning_of p (value.Number n) = Number n
 abbrev pub meanings : Package → List Value → List Meant
 meanings p [] = []
 meanings p (v ∷ later) = meaning_of p v ∷ meanings p later
+
+-- the variables among values, by their positions
+abbrev pub places_of : List Value → List ℕ
+places_of [] = []
+places_of (value.Position i ∷ later) = nat_abs i ∷ places_of later
+places_of (other ∷ later) = places_of later
 
 -- The functions among them are the package's, and mean functions.
 abbrev pub IsOwned : Package → Value → Type 0
@@ -50,11 +56,21 @@ AreOf [] (Some kind) (v ∷ later) = IsOfKind kind v × AreOf [] (Some kind) lat
 AreOf (kind ∷ kinds) further [] = ⊥
 AreOf (kind ∷ kinds) further (v ∷ later) = IsOfKind kind v × AreOf kinds further later
 
+-- the steps of nested calls on the way to the last argument, behind those that are done
+abbrev pub steps_behind : Head → List Meant → List Meant → List Part
+steps_behind head done [] = []
+steps_behind head done (m ∷ later) = fold_step head done ++ steps_behind head (done ++ m ∷ []) later
+
+-- what may overflow of a call: its steps, where it is nested calls, and then the call itself
+abbrev pub call_parts : Head → List Meant → List Part
+call_parts head args = steps_behind head [] args ++ call head args ∷ []
+
 -- There was no memory, or the assignment is the one at which a call overflows.
 abbrev pub IsFaultOfCall : Head → List Meant → StepFault → Type 0
-IsFaultOfCall head args = IsFault (λ bits. failure (call head args) ≡ Some bits)
+IsFaultOfCall head args = IsFault (λ bits. first_failure (call_parts head args) ≡ Some bits)
 
--- The function is the package's. It has the values of a call.
+-- The function is the package's. It has the values of a call, no step of which overflows.
 pub record Calls (head : Head) (args : List Meant) (p : Package) (f : Func) : Type 0 where
   pub owned : OwnsFunction p f
   pub gives : Gives (call head args) (meaning p f)
+  pub fits : first_failure (steps_behind head [] args) ≡ None

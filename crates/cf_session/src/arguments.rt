@@ -1,12 +1,12 @@
 //! A call as its head and its arguments.
 
 ghost use Rattle.std.specs.Prelude.{◌≡◌, ◌<◌};
-ghost use Rattle.cf_reference.specs.Trees.{count};
-ghost use Rattle.cf_script.specs.Views.{tree_of};
+ghost use Rattle.cf_reference.specs.Trees.{count, more};
+ghost use Rattle.cf_script.specs.Views.{tree_of, atoms};
 ghost use Rattle.cf_session.specs.Arguments.{IsForm, StandsAt, arguments_of};
 
 use cf_reference::grammar::Head;
-use cf_script::{Expr, Var};
+use cf_script::{Expr, Var, Vars};
 
 /// The form of an expression.
 #[derive(Drop)]
@@ -40,6 +40,12 @@ pub(crate) fn form_of<'e, 'a>(expr: &'e Expr<'a>) -> Form<'e, 'a>
         Expr::One(word, _) => Form::Call(Head::One(*word)),
         Expr::Fold(word, es) => Form::Nested(Head::Fold(*word), es.items()),
         Expr::Ite(_) => Form::Call(Head::Ite),
+        Expr::Restrict(..) => Form::Call(Head::Restrict),
+        Expr::Exists(..) => Form::Call(Head::Exists),
+        Expr::Forall(..) => Form::Call(Head::Forall),
+        Expr::SumOut(..) => Form::Call(Head::SumOut),
+        Expr::Compose(..) => Form::Call(Head::Compose),
+        Expr::AndExists(..) => Form::Call(Head::AndExists),
     }
 }
 
@@ -53,6 +59,23 @@ pub(crate) fn arity(expr: &Expr) -> usize
         Expr::One(..) => 1,
         Expr::Const(..) => 2,
         Expr::Fold(_, es) | Expr::Ite(es) => es.items().len(),
+        Expr::Restrict(..) | Expr::Compose(..) => 3,
+        Expr::Exists(_, vars) => vars.items().len() + 1,
+        Expr::Forall(_, vars) => vars.items().len() + 1,
+        Expr::SumOut(_, vars) => vars.items().len() + 1,
+        Expr::AndExists(_, _, vars) => vars.items().len() + 2,
+    }
+}
+
+/// The argument at a place of an expression and variables behind it.
+#[inline(always)]
+fn quantified<'e, 'a>(e: &'e Expr<'a>, vars: &'e Vars<'a>, place: usize) -> Given<'e, 'a>
+    requires { place < count (more (tree_of e.now) (atoms vars.now)) }
+    ensures { StandsAt place (more (tree_of e.now) (atoms vars.now)) result }
+{
+    match place {
+        0 => Given::Expr(e),
+        _ => Given::Var(vars.items()[place - 1]),
     }
 }
 
@@ -66,6 +89,23 @@ pub(crate) fn argument<'e, 'a>(expr: &'e Expr<'a>, place: usize) -> Given<'e, 'a
         Expr::Const(level, n) => Given::Number(if place == 0 { *level } else { *n }),
         Expr::One(_, e) => Given::Expr(e),
         Expr::Fold(_, es) | Expr::Ite(es) => Given::Expr(&es.items()[place]),
+        Expr::Restrict(e, var, bit) => match place {
+            0 => Given::Expr(e),
+            1 => Given::Var(*var),
+            _ => Given::Number(i128::from(*bit)),
+        },
+        Expr::Compose(e, var, f) => match place {
+            0 => Given::Expr(e),
+            1 => Given::Var(*var),
+            _ => Given::Expr(f),
+        },
+        Expr::Exists(e, vars) => quantified(e, vars, place),
+        Expr::Forall(e, vars) => quantified(e, vars, place),
+        Expr::SumOut(e, vars) => quantified(e, vars, place),
+        Expr::AndExists(e, f, vars) => match place {
+            0 => Given::Expr(e),
+            _ => quantified(f, vars, place - 1),
+        },
         Expr::Num(_) | Expr::At(_) | Expr::Named(_) => unreachable!(),
     }
 }

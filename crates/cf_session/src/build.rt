@@ -9,12 +9,12 @@ ghost use Rattle.cf_pkg.specs.Jobs.{AreLevel, map_value, apply_value, ternary_va
 ghost use Rattle.cf_pkg.specs.Faults.{IfOverflow};
 ghost use Rattle.cf_reference.specs.Heads.{signature};
 ghost use Rattle.cf_reference.specs.Trees.{IsFormed, Num, At, Named, Call};
-ghost use Rattle.cf_reference.specs.Calls.{call_refusal, is_nested};
+ghost use Rattle.cf_reference.specs.Calls.{call_refusal};
 ghost use Rattle.cf_reference.specs.Carrying.{function_from};
 ghost use Rattle.cf_reference.specs.Expressions.{walk};
 ghost use Rattle.cf_script.specs.Views.{tree_of, listed};
 ghost use Rattle.cf_session.specs.Sessions.{state_of};
-ghost use Rattle.cf_session.specs.Arguments.{arguments_of};
+ghost use Rattle.cf_session.specs.Arguments.{arguments_of, is_fold};
 ghost use Rattle.cf_session.specs.Values.{meanings, AreOwned, AreOf, Calls, IsFaultOfCall};
 ghost use Rattle.cf_session.specs.Building.{Grows, Builds, IsFault, IsFaultOf, refusal_of, IsFaultOfBuild};
 ghost use Rattle.cf_session.specs.Keeping.{IsJobKept, IsKept, AnswersJob, AnswersCall, AnswersKept, AnswersAgain};
@@ -213,12 +213,12 @@ impl Session {
         }
     }
 
-    /// The function of a call that isn't nested calls: its arguments from left to right, and then
+    /// The function of a call that is no fold: its arguments from left to right, and then
     /// the call.
     #[cycle(evaluate)]
     fn evaluate_call(&mut self, head: Head, expr: &Expr<'_>) -> Result<Func, StepFault>
         requires is_call { tree_of expr.now ≡ Call head (arguments_of (tree_of expr.now)) }
-        requires one { is_nested head ≡ false }
+        requires one { is_fold head ≡ false }
         requires formed { IsFormed (tree_of expr.now) }
         requires walked { walk (state_of self.old) (tree_of expr.now) ≡ None }
         ensures built { IfOk result (λ f. Builds (state_of self.old) (tree_of expr.now) self.new.pkg f) }
@@ -249,7 +249,7 @@ impl Session {
     /// the others.
     #[cycle(evaluate)]
     fn evaluate_nested(&mut self, head: Head, es: &[Expr<'_>]) -> Result<Func, StepFault>
-        requires nested { is_nested head ≡ true }
+        requires nested { is_fold head ≡ true }
         requires formed { IsFormed (Call head (listed es.now)) }
         requires walked { walk (state_of self.old) (Call head (listed es.now)) ≡ None }
         ensures built { IfOk result (λ f. Builds (state_of self.old) (Call head (listed es.now)) self.new.pkg f) }
@@ -275,13 +275,13 @@ impl Session {
         Ok(f)
     }
 
-    /// A call of functions, positions and numbers that are in order, of two functions where calls
-    /// nest: the one place where a head is given its operation.
+    /// A call of functions, positions and numbers that are in order, of two functions for a fold: the
+    /// one place where a head is given its operation.
     #[inline(always)]
     fn call(&mut self, head: Head, args: &[Value]) -> Result<Func, StepFault>
         requires owned { AreOwned self.old.pkg args.now }
         requires kinds { AreOf (signature head).first (signature head).further args.now }
-        requires pair { is_nested head ≡ true → length args.now ≡ 2 }
+        requires pair { is_fold head ≡ true → length args.now ≡ 2 }
         requires ruled { call_refusal head (meanings self.old.pkg args.now) ≡ None }
         ensures calls { IfOk result (Calls head (meanings self.old.pkg args.now) self.new.pkg) }
         ensures fault { IfErr result (IsFaultOfCall head (meanings self.old.pkg args.now)) }
@@ -306,6 +306,12 @@ impl Session {
                 let (f, g, h) = three_functions(args);
                 self.choose(f, g, h)
             }
+            Head::Restrict => self.restrict(args),
+            Head::Exists => self.exists(args),
+            Head::Forall => self.forall(args),
+            Head::SumOut => self.sum_out(args),
+            Head::Compose => self.compose(args),
+            Head::AndExists => self.and_exists(args),
         }
     }
 }

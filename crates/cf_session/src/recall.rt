@@ -14,7 +14,7 @@ use cf_script::Expr;
 
 impl Session {
     /// The function of an expression each job of which is finished, where the look-ups find it. None
-    /// says nothing.
+    /// says nothing. Calls over variables aren't looked up.
     #[inline(always)]
     #[cycle(recall)]
     pub(crate) fn recall(&self, expr: &Expr<'_>) -> Option<Func>
@@ -42,6 +42,8 @@ impl Session {
             }
             Expr::Fold(word, es) => self.recall_fold(*word, es.items()),
             Expr::Ite(es) => self.recall_choice(es.items()),
+            Expr::Restrict(..) | Expr::Exists(..) | Expr::Forall(..) => None,
+            Expr::SumOut(..) | Expr::Compose(..) | Expr::AndExists(..) => None,
         }
     }
 

@@ -85,7 +85,7 @@ evaluate_call-loop-place-preserved t c =
       | evaluate_call-in-Var+in-Ok-position w ↦
           (let fits : SFits w128 w.in-Ok-position.i = search rules in
           front_atom start before now c.args.head all items place (atom_of w.in-Var.var) (value.Position w.in-Ok-position.i) v front w.in-Var.ensures
-          (position_value (state_of before) (atom_of w.in-Var.var) w.in-Ok-position.i w.in-Ok-position.ensures.position.is_it) w.self-is (w.value-is ∙ ap value.Position (to_z-of_z w128 w.in-Ok-position.i fits)))
+          (position_value (state_of before) (atom_of w.in-Var.var) w.in-Ok-position.i w.in-Ok-position.ensures.position) w.self-is (w.value-is ∙ ap value.Position (to_z-of_z w128 w.in-Ok-position.i fits)))
       | evaluate_call-in-Number w ↦
           (let fits : SFits w128 w.in-Number.n = search rules in
           front_atom start before now c.args.head all items place (tree.Number w.in-Number.n) (value.Number w.in-Number.n) v front w.in-Number.ensures
@@ -95,15 +95,15 @@ evaluate_call-loop-place-preserved t c =
     let grown = c.loop-place.invariant.grows in
     let next : Gathered s c.args.head all now.pkg c.push.new.args.items (c.loop-place.place + 1) × Grows c.args.self.now now = elim c.match-argument.branch [
       | evaluate_call-in-Expr+in-Ok w ↦
-          next-one s c.args.head all c.args.self.now before w.evaluate.new.self now items c.push.new.args.items c.loop-place.place (tree_of w.in-Expr.e.now) w.in-Ok.f v c.requires.one
+          next-one s c.args.head all c.args.self.now before w.evaluate.new.self now items c.push.new.args.items c.loop-place.place (tree_of w.in-Expr.e.now) w.in-Ok.f v
           h w.in-Expr.ensures grown.state grown w.evaluate.ensures.grows w.in-Ok.ensures.built w.self-is c.in_ok-push.ensures w.value-is
       | evaluate_call-in-Var+in-Ok-position w ↦
           (let fits : SFits w128 w.in-Ok-position.i = search rules in
-          next-atom s c.args.head all c.args.self.now before now items c.push.new.args.items c.loop-place.place (atom_of w.in-Var.var) v (value.Position w.in-Ok-position.i) c.requires.one
+          next-atom s c.args.head all c.args.self.now before now items c.push.new.args.items c.loop-place.place (atom_of w.in-Var.var) v (value.Position w.in-Ok-position.i)
           h w.in-Var.ensures tt (ap (λ u. meant_atom u (atom_of w.in-Var.var)) (sym grown.state) ∙ w.in-Ok-position.ensures.position.is_it) grown w.self-is c.in_ok-push.ensures (w.value-is ∙ ap value.Position (to_z-of_z w128 w.in-Ok-position.i fits)))
       | evaluate_call-in-Number w ↦
           (let fits : SFits w128 w.in-Number.n = search rules in
-          next-atom s c.args.head all c.args.self.now before now items c.push.new.args.items c.loop-place.place (tree.Number w.in-Number.n) v (value.Number w.in-Number.n) c.requires.one
+          next-atom s c.args.head all c.args.self.now before now items c.push.new.args.items c.loop-place.place (tree.Number w.in-Number.n) v (value.Number w.in-Number.n)
           h w.in-Number.ensures tt refl grown w.self-is c.in_ok-push.ensures (w.value-is ∙ ap value.Number (to_z-of_z w128 w.in-Number.n fits)))
     ] in
     record {
@@ -295,7 +295,7 @@ evaluate_call-returns-in_err-push-clause-again t c f k =
       | evaluate_call-in-Var+in-Ok-position w ↦
           (let fits : SFits w128 w.in-Ok-position.i = search rules in
           front_atom start before now c.args.head all items place (atom_of w.in-Var.var) (value.Position w.in-Ok-position.i) v front w.in-Var.ensures
-          (position_value (state_of before) (atom_of w.in-Var.var) w.in-Ok-position.i w.in-Ok-position.ensures.position.is_it) w.self-is (w.value-is ∙ ap value.Position (to_z-of_z w128 w.in-Ok-position.i fits)))
+          (position_value (state_of before) (atom_of w.in-Var.var) w.in-Ok-position.i w.in-Ok-position.ensures.position) w.self-is (w.value-is ∙ ap value.Position (to_z-of_z w128 w.in-Ok-position.i fits)))
       | evaluate_call-in-Number w ↦
           (let fits : SFits w128 w.in-Number.n = search rules in
           front_atom start before now c.args.head all items place (tree.Number w.in-Number.n) (value.Number w.in-Number.n) v front w.in-Number.ensures

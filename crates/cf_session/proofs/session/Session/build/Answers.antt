@@ -6,7 +6,8 @@ use Rattle.cf_pkg.specs.Packages.{Package, OwnsFunction, meaning}
 use Rattle.cf_script.specs.Views.{tree_of}
 use Rattle.cf_reference.proofs.GivesLaws.{gives-let}
 use Rattle.cf_session.specs.Sessions.{Held, state_of}
-use Rattle.cf_session.proofs.Recalled.{AreFinished, Lawful, kept_owned, kept_goes, kept_means, kept_once}
+use Rattle.cf_session.proofs.Finished.{AreFinished, Lawful}
+use Rattle.cf_session.proofs.Recalled.{kept_owned, kept_goes, kept_means, kept_once}
 use Rattle.cf_session.proofs.session.Session.build.Goals as goal
 
 pub returns-in-Ok-clause-means : goal.returns-in-Ok-clause-means

@@ -6,12 +6,14 @@ use Rattle.std.proofs.lemmas.Int.{to_z-of_z}
 use Rattle.std.proofs.lemmas.Result.{IfOk-weaker, IfErr-weaker}
 use Rattle.cf_ops.specs.Operations.{of_one, of_two, of_three}
 use Rattle.cf_pkg.specs.Tasks as task
-use Rattle.cf_reference.specs.declared.grammar.Head.TheVariants.{Const, One, Fold, Ite}
+use Rattle.cf_reference.specs.declared.grammar.Head.TheVariants.{Const, One, Fold, Ite, Restrict}
 use Rattle.cf_reference.specs.declared.grammar.Head.{Head}
 use Rattle.cf_reference.specs.Heads.{signature}
-use Rattle.cf_reference.specs.Calls.{is_nested, call_refusal}
+use Rattle.cf_reference.specs.Calls.{call_refusal}
+use Rattle.cf_session.specs.Arguments.{is_fold}
 use Rattle.cf_session.specs.declared.values.Value.{Value}
 use Rattle.cf_session.specs.Values.{meanings, AreOwned, AreOf}
+use Rattle.cf_session.specs.Keeping.{AnswersCall}
 use Rattle.cf_session.specs.declared.values.Value.TheVariants.{Function, Number}
 use Rattle.cf_session.proofs.Leaves.{if_both}
 use Rattle.cf_session.proofs.Jobs.{const_calls, one_calls, one_fails, fold_calls, fold_fails, two_level, two_kinds, choice_calls, choice_fails, calls_told, fault_told}
@@ -46,7 +48,7 @@ returns-in-One-clause-fault c =
 
 pub two_functions-requires : goal.two_functions-requires
 two_functions-requires c =
-    let nested : is_nested c.args.head ≡ true = ap is_nested c.in-Fold.is in
+    let nested : is_fold c.args.head ≡ true = ap is_fold c.in-Fold.is in
     two_kinds c.in-Fold.word c.args.args.now
     (subst (λ (d : Head). AreOf (signature d).first (signature d).further c.args.args.now) c.in-Fold.is c.requires.kinds) (c.requires.pair nested)
 
@@ -156,3 +158,7 @@ returns-in-Ite-clause-again c =
     let h = c.three_functions.result.2 in
     job_answered c.args.self.now c.choose.new.self c.args.head Ite c.args.args.now (Function f ∷ Function g ∷ Function h ∷ []) (task.Ternary of_three f g h) (task.Ternary of_three f g h) c.choose.result c.in-Ite.is c.three_functions.ensures refl refl
     c.choose.ensures.grows c.choose.ensures.again
+
+pub returns-in-Restrict-clause-again : goal.returns-in-Restrict-clause-again
+returns-in-Restrict-clause-again c =
+    subst (λ (d : Head). AnswersCall c.args.self.now c.restrict.new.self d c.args.args.now c.restrict.result) (sym c.in-Restrict.is) c.restrict.ensures.again
