@@ -1,5 +1,5 @@
 -- What an answer says of the session, of the files and of what was written.
-use Rattle.std.proofs.Common.{ℕ, ◌≡◌, ◌≤◌, ◌<◌, Bool, true, false, refl, sym, ◌∙◌, ap, subst, arith}
+use Rattle.std.proofs.Common.{ℕ, ◌≡◌, ◌≤◌, ◌<◌, List, Bool, true, false, refl, sym, ◌∙◌, ap, subst, arith}
 use Rattle.std.specs.Prelude.{◌≢◌, IsTrue}
 use Rattle.cf_io.specs.Causes.{Rose}
 use Rattle.cf_io.specs.Opening.{KeepsEntries}
@@ -15,6 +15,10 @@ use Rattle.cf_session.specs.declared.faults.Refusal.{Refusal}
 use Rattle.cf_session.specs.declared.faults.Refusal.TheVariants.{NoFile, FileTooLarge}
 use Rattle.cf_session.specs.declared.step.Stepped.{Stepped}
 use Rattle.cf_session.specs.declared.step.Stepped.TheVariants as stepped
+use Rattle.std.specs.Borrow.{Bor}
+use Rattle.cf_script.specs.declared.trees.Statement.{Statement as Line}
+use Rattle.cf_script.specs.declared.trees.Statement.TheVariants as line
+use Rattle.cf_script.specs.Views.{statement_of}
 use Rattle.cf_session.specs.Sessions.{Held, state_of}
 use Rattle.cf_session.specs.Building.{Grows}
 use Rattle.cf_session.specs.Contents.{KeepsFiles}
@@ -146,3 +150,18 @@ load-complete was now outcome old new before after a d shows still write memory 
 -- files that weren't asked
 pub same-files : (at : FilesView) → KeepsFiles at at
 same-files at = record { entries = record { told = refl; entries = refl }; misses = omega arith; faults = omega arith }
+
+-- any other statement than `load`
+pub reads-none : (st : Line) → ((prefix file : Bor (List ℕ)) → st ≡ line.Load prefix file → ⊥)
+    → reads_file (statement_of st) ≡ false
+reads-none line.Empty other = refl
+reads-none (line.Level k) other = refl
+reads-none (line.Vars names) other = refl
+reads-none (line.Let name e) other = refl
+reads-none (line.Load prefix file) other = absurd (other prefix file refl)
+reads-none (line.Value name bits) other = refl
+reads-none (line.First name v) other = refl
+reads-none (line.List name v most) other = refl
+reads-none (line.Equal name other_name) other = refl
+reads-none (line.Size name) other = refl
+reads-none line.Stats other = refl

@@ -1,6 +1,6 @@
 -- What is written of a reply, and what a statement does.
 use Rattle.std.proofs.Common.{ℕ, zero, suc, ◌≡◌, ◌≤◌, ◌+◌, Bool, true, false, List, [], ◌∷◌, ◌++◌, length, refl, sym, ◌∙◌, ap, arith, subst}
-use Rattle.std.specs.Prelude.{IsTrue, take, drop, flat_map, not, ◌&&◌, is_some, is_none, IsSome, Option, Some, None}
+use Rattle.std.specs.Prelude.{IsTrue, take, drop, flat_map, not, ◌&&◌, is_some, IsSome, Option, Some, None}
 use Rattle.std.specs.Option.{option_or, option_map}
 use Rattle.cf_model.specs.FlatFunctions.{FlatFunction}
 use Rattle.cf_pkg.specs.declared.Func.{Func}
@@ -243,11 +243,7 @@ does-lack files h t at e = by (is_some h.level) (wants_level t) refl refl e
     by false true p q e = (step-without files (state_of h) t (none-is h.level p) (wants t q), grown_same h, refl)
 
 -- `load` without a level
-pub load-lacks : (files : Files) (h : Held) (prefix file : List ℕ) (at : SinkView) (none : Bool) → none ≡ is_none h.level
-    → none ≡ true → Does (load_circuit files (state_of h) prefix file) h h at at (stepped.Refused refusal.NoLevel)
-load-lacks files h prefix file at none is e =
-    (step-without files (state_of h) (Load prefix file) (no_level h.level (sym is ∙ e)) tt, grown_same h, refl)
-  where
-    no_level : (o : Option ℕ) → is_none o ≡ true → o ≡ None
-    no_level None e = refl
-    no_level (Some k) e = absurd (false≢true e)
+pub load-lacks : (files : Files) (h : Held) (prefix file : List ℕ) (at : SinkView) → is_some h.level ≡ false
+    → Does (load_circuit files (state_of h) prefix file) h h at at (stepped.Refused refusal.NoLevel)
+load-lacks files h prefix file at e =
+    (step-without files (state_of h) (Load prefix file) (none-is h.level e) tt, grown_same h, refl)

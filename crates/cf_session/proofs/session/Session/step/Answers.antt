@@ -4,7 +4,7 @@ use Rattle.cf_reference.specs.Trees as tree
 use Rattle.cf_reference.specs.Carrying.{step}
 use Rattle.cf_session.specs.Sessions.{state_of}
 use Rattle.cf_session.specs.Stepping.{reads_file}
-use Rattle.cf_session.proofs.DoesFacts.{does-leads, does-replies, does-complete, does-names, does-silent, does-always, load-complete, never-missing, never-large, same-files}
+use Rattle.cf_session.proofs.DoesFacts.{does-leads, does-replies, does-complete, does-names, does-silent, does-always, load-complete, never-missing, never-large, same-files, reads-none}
 use Rattle.cf_session.proofs.session.Session.step.Goals as goal
 
 pub returns-in-Load-clause-leads : goal.returns-in-Load-clause-leads
@@ -24,7 +24,7 @@ returns-in-Load-clause-complete g c =
 
 pub returns-in_default : goal.returns-in_default
 returns-in_default g c =
-    let plain : reads_file (statement_of c.args.statement.now) ≡ false = search in
+    let plain : reads_file (statement_of c.args.statement.now) ≡ false = reads-none c.args.statement.now (λ prefix file e. c.in_default.not-Load prefix file e) in
     let always = does-always (step (g.F.Files.shown c.args.files.now).entries (state_of c.args.self.now) (statement_of c.args.statement.now)) c.args.self.now c.step_on.new.self (g.K.Sink.shown c.args.out.now) (g.K.Sink.shown c.step_on.new.out) c.step_on.result (c.step_on.ensures.does (g.F.Files.shown c.args.files.now).entries) in
     record {
       leads = λ told. does-leads (step (g.F.Files.shown c.args.files.now).entries (state_of c.args.self.now) (statement_of c.args.statement.now)) c.args.self.now c.step_on.new.self (g.K.Sink.shown c.args.out.now) (g.K.Sink.shown c.step_on.new.out) c.step_on.result (c.step_on.ensures.does (g.F.Files.shown c.args.files.now).entries);
