@@ -14,7 +14,7 @@ use Rattle.cf_reference.specs.States.{State, level_in, named}
 use Rattle.cf_reference.proofs.FailureLaws.{over-Num, over-At}
 use Rattle.cf_reference.proofs.ValueLaws.{over-Named-flat}
 use Rattle.cf_reference.proofs.GivesLaws.{gives-Num, gives-At, gives-Named}
-use Rattle.cf_session.specs.declared.faults.Refusal.TheVariants.{NoLevel, LevelAgain, NoName, Taken, TooManyVars, LevelsDiffer, BadLevel, OutOfRange, Overflow}
+use Rattle.cf_session.specs.declared.faults.Refusal.TheVariants.{NoLevel, LevelAgain, NoName, Taken, TooManyVars, LevelsDiffer, BadLevel, OutOfRange, Overflow, NoFile, FileTooLarge, Circuit, Links}
 use Rattle.cf_session.specs.declared.faults.StepFault.{StepFault}
 use Rattle.cf_session.specs.declared.faults.StepFault.TheVariants.{NoMemory, Refused}
 use Rattle.cf_session.specs.Building.{Builds, IsFault}
@@ -32,6 +32,10 @@ fault_turned P Q to (Refused TooManyVars) h = h
 fault_turned P Q to (Refused LevelsDiffer) h = h
 fault_turned P Q to (Refused BadLevel) h = h
 fault_turned P Q to (Refused OutOfRange) h = h
+fault_turned P Q to (Refused NoFile) h = h
+fault_turned P Q to (Refused FileTooLarge) h = h
+fault_turned P Q to (Refused (Circuit line why)) h = h
+fault_turned P Q to (Refused (Links fault)) h = h
 
 -- a function that was tabulated
 tabulated_at : (p : Package) (f : Func) (l : ℕ) (value : List Bool → ℤ) → Means p f (tabulated l value) → (bits : List Bool)

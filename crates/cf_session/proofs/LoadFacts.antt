@@ -1,5 +1,5 @@
 -- What a circuit's file does to a session.
-use Rattle.std.proofs.Common.{ℕ, suc, ◌≡◌, ◌≤◌, ◌<◌, ◌+◌, ◌^◌, Bool, true, false, List, [], ◌∷◌, map, length, refl, sym, ◌∙◌, ap, arith, subst, Option, Some, None}
+use Rattle.std.proofs.Common.{ℕ, zero, suc, ◌≡◌, ◌≤◌, ◌<◌, ◌+◌, ◌^◌, Bool, true, false, List, [], ◌∷◌, map, length, refl, sym, ◌∙◌, ap, arith, subst, Option, Some, None}
 use Rattle.std.specs.Prelude.{All, is_some, IsSome, slice_get, unwrap_or}
 use Rattle.std.specs.Str.{bytes_eq}
 use Rattle.std.proofs.lemmas.Option.{none-some, same_Some}
@@ -133,7 +133,7 @@ length_names (out ∷ outputs) = ap suc (length_names outputs)
 output_at : (outputs : List Out) (i : ℕ) (name : List ℕ) → slice_get (names_out outputs) i ≡ Some name
     → (out : Out) × (slice_get outputs i ≡ Some out) × (name ≡ out.name)
 output_at [] i name e = absurd (none-some name e)
-output_at (out ∷ outputs) 0 name e = (out, refl, sym (same_Some out.name name e))
+output_at (out ∷ outputs) zero name e = (out, refl, sym (same_Some out.name name e))
 output_at (out ∷ outputs) (suc i) name e = output_at outputs i name e
 
 some_of : {A : Type 0} (xs : List A) (i : ℕ) (x : A) → slice_get xs i ≡ Some x → 0 < length xs

@@ -9,13 +9,13 @@ use Rattle.cf_pkg.proofs.Valued.{Keeps-same}
 use Rattle.std.proofs.lemmas.List.{take-append-drop, append_assoc, append-nil}
 use Rattle.cf_io.specs.Causes.{Rose}
 use Rattle.cf_io.specs.Shown.{SinkView}
-use Rattle.cf_reference.specs.Trees.{Tree, Statement, Empty, Level, Vars, Let, Value, First, Listed, Equal, Size, Stats}
+use Rattle.cf_reference.specs.Trees.{Tree, Statement, Empty, Level, Vars, Let, Load, Value, First, Listed, Equal, Size, Stats}
 use Rattle.cf_reference.specs.Reasons.{Taken, NoLevel, Overflow, unless}
 use Rattle.cf_reference.specs.States.{State, Files, is_among}
 use Rattle.cf_reference.specs.States as states
 use Rattle.cf_reference.specs.Expressions.{walk}
 use Rattle.cf_reference.specs.Failures.{over}
-use Rattle.cf_reference.specs.Carrying.{Refuses, Goes, function_from, define, step}
+use Rattle.cf_reference.specs.Carrying.{Refuses, Goes, function_from, define, load_circuit, step}
 use Rattle.cf_reference.specs.Scripts.{refuses}
 use Rattle.cf_reference.proofs.StepLaws.{step-Let-fails, step-Let-whole, step-Let-taken, step-without, WantsLevel}
 use Rattle.cf_session.specs.declared.faults.Refusal.TheVariants as refusal
@@ -224,6 +224,7 @@ wants Empty e = false≢true e
 wants (Level k) e = false≢true e
 wants (Vars names) e = tt
 wants (Let name u) e = tt
+wants (Load prefix file) e = tt
 wants (Value name bits) e = tt
 wants (First name v) e = tt
 wants (Listed name v most) e = tt
@@ -240,3 +241,9 @@ does-lack files h t at e = by (is_some h.level) (wants_level t) refl refl e
     by true b p q e = absurd (false≢true e)
     by false false p q e = absurd (false≢true e)
     by false true p q e = (step-without files (state_of h) t (none-is h.level p) (wants t q), grown_same h, refl)
+
+-- `load` without a level
+pub load-lacks : (files : Files) (h : Held) (prefix file : List ℕ) (at : SinkView) → is_some h.level ≡ false
+    → Does (load_circuit files (state_of h) prefix file) h h at at (stepped.Refused refusal.NoLevel)
+load-lacks files h prefix file at e =
+    (step-without files (state_of h) (Load prefix file) (none-is h.level e) tt, grown_same h, refl)

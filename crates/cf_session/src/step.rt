@@ -171,8 +171,9 @@ impl Session {
         out: &mut K,
     ) -> Stepped
         requires set { IsSome self.now.level }
-        ensures { Does (tell_list (state_of self.now) name.now v most) self.now self.now
+        ensures does { Does (tell_list (state_of self.now) name.now v most) self.now self.now
             (K.shown out.old) (K.shown out.new) result }
+        ensures file { result ≢ Stepped.FileFault }
     {
         match self.list(name, v, most) {
             Ok(listing) => {
