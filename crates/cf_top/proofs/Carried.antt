@@ -1,5 +1,5 @@
 -- What a line comes to that was parsed, and a statement that the session carried out or didn't.
-use Rattle.std.proofs.Common.{ℕ, ◌≡◌, List, ◌++◌, true, false, ap, sym, ◌∙◌, subst, arith}
+use Rattle.std.proofs.Common.{ℕ, ◌≡◌, List, ap, sym, ◌∙◌, subst, arith}
 use Rattle.std.proofs.lemmas.Bool.{false≢true}
 use Rattle.cf_io.specs.Shown.{FilesView, FilesAreTold}
 use Rattle.cf_reference.specs.Trees.{Statement, Empty, Level, Vars, Let, Load, Value, First, Listed, Equal, Size, Stats}

@@ -1,4 +1,4 @@
-use Rattle.std.proofs.Common.{◌+◌, ◌++◌, IsTrue, subst, sym, ap, ◌∙◌, arith, refl}
+use Rattle.std.proofs.Common.{◌+◌, ◌++◌, IsTrue, subst, sym, ◌∙◌, arith, refl}
 use Rattle.cf_io.specs.Held.{taken_by}
 use Rattle.cf_reference.specs.Lines.{LineTooLong, ScriptTooLong}
 use Rattle.cf_reference.specs.Reasons as reason
