@@ -1,16 +1,13 @@
 -- What remembered jobs of calls over variables say of their function.
-use Rattle.std.proofs.Common.{ℕ, ℤ, pos, ◌≡◌, ◌<◌, ◌≤◌, ◌≤ℤ◌, ◌^◌, ◌==◌, ◌&&◌, Bool, true, false, List, [], ◌∷◌, length, Option, Some, None, refl, sym, ap, subst, ◌∙◌, arith}
+use Rattle.std.proofs.Common.{ℕ, ℤ, pos, ◌≡◌, ◌<◌, ◌≤◌, ◌≤ℤ◌, ◌^◌, ◌==◌, ◌&&◌, Bool, true, false, List, [], ◌∷◌, Option, Some, None, refl, sym, ap, subst, ◌∙◌, arith}
 use Rattle.std.proofs.lemmas.Int.{ints}
 use Rattle.std.specs.Prelude.{negsuc, nat_abs, nat_le, All}
 use Rattle.std.specs.List.{list_all}
 use Rattle.std.specs.Option.{option_or}
 use Rattle.std.proofs.lemmas.Bool.Decides.{nat_tests}
-use Rattle.std.proofs.lemmas.List.{length-set}
 use Rattle.std.proofs.lemmas.List.Elements.{All-cons, All-nil, All-head, All-tail}
-use Rattle.cf_model.specs.Assignments.{with_bit}
 use Rattle.cf_model.specs.FlatFunctions.{FlatFunction, IsFlatFunction, IsAssignment}
-use Rattle.cf_model.specs.Quantified.{over_both, over_all, some_setting, every_setting, composed, both}
-use Rattle.cf_model.specs.Terms.{joined}
+use Rattle.cf_model.specs.Quantified.{over_both, over_all, some_setting, composed, both}
 use Rattle.cf_model.specs.declared.terms.Word2.{Word2}
 use Rattle.cf_model.specs.declared.terms.Word2.TheVariants.{And, Or}
 use Rattle.cf_ops.specs.Operations.{of_two, of_three}
@@ -25,7 +22,7 @@ use Rattle.cf_restrict.specs.Quantified.{some_value, IsQuantified, AreQuantified
 use Rattle.cf_restrict.proofs.QuantLaws.{over_all-same, some_is, some_same, values_as, value_is, Halved, halves_applied, halves_chosen}
 use Rattle.cf_reference.specs.declared.grammar.Head.{Head}
 use Rattle.cf_reference.specs.Reasons.{LevelsDiffer, BadLevel, OutOfRange, unless}
-use Rattle.cf_reference.specs.States.{State, is_below}
+use Rattle.cf_reference.specs.States.{is_below}
 use Rattle.cf_reference.specs.Calls.{Meant, levels, positions, exact, call_refusal}
 use Rattle.cf_reference.specs.Calls as means
 use Rattle.cf_reference.proofs.TestFacts.{is_le}

@@ -10,7 +10,7 @@ use Rattle.cf_reference.specs.Heads.{signature}
 use Rattle.cf_reference.specs.declared.grammar.Kind.{Kind}
 use Rattle.cf_reference.specs.Trees.{Tree, Call, Arguments, none, more, atom, Atom, count, depth, depths, IsFormed, AreFormed}
 use Rattle.cf_reference.specs.States.{State}
-use Rattle.cf_reference.specs.Calls.{Part, flat, Meant, Function, Position, Number, call, call_refusal}
+use Rattle.cf_reference.specs.Calls.{Part, flat, Function, Position, Number, call, call_refusal}
 use Rattle.cf_reference.specs.Expressions.{part, meant, meant_atom, walk, walks, walk_atom}
 use Rattle.cf_reference.specs.Failures.{failure, first_failure, fold_step, over, over_arguments}
 use Rattle.cf_reference.specs.Gives.{Gives, GivesTree}
@@ -189,8 +189,8 @@ gathered-all s head all p args place h end =
     let past = ap (λ k. from_place k all) end ∙ from-end all in (
       h.is_meant ∙ ap (λ es. meanings p args ++ meant s es) past ∙ ap (λ l. meanings p args ++ l) (meant-none s) ∙ append-none (meanings p args),
       h.overflow
-      ∙ ap (option_or (first_failure (steps_behind head [] (meanings p args)))) (ap (over_arguments s head (meanings p args)) past ∙ over_arguments-none s head (meanings p args))
-      ∙ or_none (first_failure (steps_behind head [] (meanings p args))),
+          ∙ ap (option_or (first_failure (steps_behind head [] (meanings p args)))) (ap (over_arguments s head (meanings p args)) past ∙ over_arguments-none s head (meanings p args))
+          ∙ or_none (first_failure (steps_behind head [] (meanings p args))),
     )
 
 of_kind : (p : Package) (kind : Kind) (v : Value) → IsOf kind (meaning_of p v) → IsOfKind kind v

@@ -1,13 +1,12 @@
 -- Heads that are folds, and the steps of those that aren't.
-use Rattle.std.proofs.Common.{ℕ, zero, suc, ◌≡◌, ◌+◌, ◌&&◌, cond, Bool, true, false, List, [], ◌∷◌, ◌++◌, length, Option, Some, None, refl, ap, sym, ◌∙◌, arith, append_assoc}
+use Rattle.std.proofs.Common.{ℕ, zero, suc, ◌≡◌, ◌&&◌, cond, Bool, true, false, List, [], ◌∷◌, ◌++◌, length, Option, Some, None, refl, ap, sym, ◌∙◌, arith, append_assoc}
 use Rattle.std.specs.Prelude.{nat_le}
 use Rattle.std.specs.Option.{option_or}
 use Rattle.std.proofs.lemmas.Bool.{false≢true}
 use Rattle.cf_model.specs.declared.terms.Word2.{Word2}
 use Rattle.cf_reference.specs.declared.grammar.Head.{Head}
 use Rattle.cf_reference.specs.declared.grammar.Head.TheVariants.{Const, One, Fold, Ite, Restrict, Exists, Forall, SumOut, Compose, AndExists}
-use Rattle.cf_reference.specs.declared.grammar.Kind.{Kind}
-use Rattle.cf_reference.specs.declared.grammar.Kind.TheVariants.{Expression as AnExpression, Variable as AVariable}
+use Rattle.cf_reference.specs.declared.grammar.Kind.TheVariants.{Expression as AnExpression}
 use Rattle.cf_reference.specs.Heads.{kind_at}
 use Rattle.cf_reference.specs.Calls.{Meant, call, is_nested}
 use Rattle.cf_reference.specs.Failures.{failure, first_failure, fold_step}

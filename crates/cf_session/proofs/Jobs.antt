@@ -21,7 +21,7 @@ use Rattle.cf_reference.specs.Heads.{signature}
 use Rattle.cf_reference.specs.declared.grammar.Kind.{Kind}
 use Rattle.cf_reference.specs.declared.grammar.Kind.TheVariants.{Expression as AnExpression}
 use Rattle.cf_reference.specs.States.{at}
-use Rattle.cf_reference.specs.Calls.{Meant, Function, Number, exact, call, call_refusal}
+use Rattle.cf_reference.specs.Calls.{Meant, Function, Number, exact, call_refusal}
 use Rattle.cf_reference.specs.Failures.{first_failure}
 use Rattle.cf_reference.proofs.FailureLaws.{least-same}
 use Rattle.cf_reference.proofs.FitLaws.{value1_fits, value2_fits}

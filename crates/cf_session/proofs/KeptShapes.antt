@@ -1,5 +1,5 @@
 -- The values of a call whose jobs are remembered, by its head.
-use Rattle.std.proofs.Common.{ℕ, ℤ, ◌≡◌, List, [], ◌∷◌, Some, refl, sym, subst, ◌∙◌}
+use Rattle.std.proofs.Common.{ℤ, ◌≡◌, List, [], ◌∷◌, Some, refl, sym, subst, ◌∙◌}
 use Rattle.std.specs.Prelude.{nat_abs}
 use Rattle.std.proofs.lemmas.Option.{same_Some, none-some}
 use Rattle.cf_model.specs.Terms.{is_true}

@@ -1,15 +1,14 @@
 -- A kept expression isn't refused, and its function is built.
-use Rattle.std.proofs.Common.{ℕ, ℤ, zero, suc, pos, ◌≡◌, ◌≤◌, ◌<◌, ◌≤ℤ◌, ◌^◌, ◌==◌, ◌&&◌, true, false, List, [], ◌∷◌, ◌++◌, Some, None, Ok, refl, sym, ap, subst, ◌∙◌, arith}
+use Rattle.std.proofs.Common.{ℕ, ℤ, suc, pos, ◌≡◌, ◌≤◌, ◌<◌, ◌≤ℤ◌, ◌^◌, ◌==◌, ◌&&◌, true, List, [], ◌∷◌, ◌++◌, Some, None, Ok, refl, sym, ap, subst, ◌∙◌, arith}
 use Rattle.std.proofs.lemmas.Int.{ints}
-use Rattle.std.specs.Prelude.{negsuc, nat_abs, nat_le, is_some, unwrap_or, All}
+use Rattle.std.specs.Prelude.{nat_abs, nat_le, is_some, unwrap_or, All}
 use Rattle.std.specs.List.{list_all}
 use Rattle.std.specs.Option.{option_or, option_map}
-use Rattle.std.proofs.lemmas.Bool.Decides.{nat_tests}
-use Rattle.std.proofs.lemmas.Option.{same_Some, none-some}
-use Rattle.cf_model.specs.FlatFunctions.{FlatFunction, IsFlatFunction, IsAssignment}
+use Rattle.std.proofs.lemmas.Option.{none-some}
+use Rattle.cf_model.specs.FlatFunctions.{FlatFunction, IsAssignment}
 use Rattle.cf_model.specs.declared.terms.Word1.{Word1}
 use Rattle.cf_model.specs.declared.terms.Word2.{Word2}
-use Rattle.cf_model.specs.declared.terms.Word2.TheVariants.{And, Or, Xor, Plus, Minus, Times, Min, Max, Eq, Lt}
+use Rattle.cf_model.specs.declared.terms.Word2.TheVariants.{And, Or, Plus}
 use Rattle.cf_ops.specs.Operations.{of_one, of_two, of_three}
 use Rattle.cf_pkg.specs.declared.Func.{Func}
 use Rattle.cf_pkg.specs.Tasks.{Task}
@@ -34,7 +33,6 @@ use Rattle.cf_reference.specs.Gives.{Gives, GivesTree}
 use Rattle.cf_reference.proofs.ExpressionLaws.{part-Call, meant-none, meant-more, meant-atom, walk-Num, walk-At, walk-Named, walks-none, walks-more, walks-atom}
 use Rattle.cf_reference.proofs.FailureLaws.{first_failure-append, over-Call, over-Num, over-At, over_arguments-none, over_arguments-more, over_arguments-atom}
 use Rattle.cf_reference.proofs.GivesLaws.{gives-Num, gives-At, gives-let, gives-never}
-use Rattle.cf_reference.proofs.TestFacts.{is_le}
 use Rattle.cf_reference.proofs.WalkLaws.{walk-Call-goes}
 use Rattle.cf_session.specs.declared.values.Value.{Value}
 use Rattle.cf_session.specs.declared.values.Value.TheVariants.{Function, Position, Number}

@@ -1,10 +1,9 @@
 -- The first variable whose sums overflow is the first step of nested sums that does.
 use Rattle.std.proofs.Common.{ℕ, zero, suc, ℤ, ◌≡◌, ◌+◌, ◌<◌, Bool, true, false, List, [], ◌∷◌, ◌++◌, cond, map, take, length, Option, Some, None, refl, ap, sym, subst, ◌∙◌, arith, append_assoc, append-nil}
-use Rattle.std.specs.Prelude.{◌≢◌, nat_abs, slice_set}
-use Rattle.std.specs.Option.{option_or}
+use Rattle.std.specs.Prelude.{◌≢◌, nat_abs}
 use Rattle.std.proofs.lemmas.List.{length-set}
 use Rattle.cf_model.specs.Assignments.{bit_at, with_bit}
-use Rattle.cf_model.specs.FlatFunctions.{FlatFunction, IsFlatFunction, IsAssignment, value_at}
+use Rattle.cf_model.specs.FlatFunctions.{FlatFunction, IsFlatFunction, IsAssignment}
 use Rattle.cf_model.specs.Terms.{joined, value2}
 use Rattle.cf_model.specs.Values.{Fits, fitting, and_then}
 use Rattle.cf_model.specs.Quantified.{over_both, over_all}
@@ -12,7 +11,7 @@ use Rattle.cf_model.specs.declared.terms.Word2.TheVariants.{Plus}
 use Rattle.cf_model.proofs.TermLaws.{fitting-fits}
 use Rattle.cf_reference.specs.declared.grammar.Head.TheVariants.{SumOut}
 use Rattle.cf_reference.specs.States.{at}
-use Rattle.cf_reference.specs.Calls.{Part, Meant, Function, Position, positions, places, exact, call}
+use Rattle.cf_reference.specs.Calls.{Part, Meant, Function, Position, places, exact, call}
 use Rattle.cf_reference.specs.Failures.{failure, first_failure, fold_step}
 use Rattle.cf_reference.proofs.FailureLaws.{failure-never, first_failure-append}
 use Rattle.cf_reference.proofs.FitLaws.{value2_fits}

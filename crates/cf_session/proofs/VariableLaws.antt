@@ -1,10 +1,9 @@
 -- What calls over variables mean, and the jobs that give it.
-use Rattle.std.proofs.Common.{ℕ, ℤ, pos, ◌≡◌, ◌<◌, ◌≤◌, ◌≤ℤ◌, ◌^◌, ◌==◌, ◌&&◌, Bool, true, false, List, [], ◌∷◌, ◌++◌, map, length, Option, Some, None, refl, sym, ap, subst, ◌∙◌, arith}
-use Rattle.std.specs.Prelude.{nat_abs, nat_lt, nat_le, int_le, int_lt, negsuc, All, IsTrue}
+use Rattle.std.proofs.Common.{ℕ, ℤ, ◌≡◌, ◌<◌, ◌^◌, Bool, true, List, [], ◌∷◌, map, Option, Some, None, refl, sym, ap, subst, ◌∙◌}
+use Rattle.std.specs.Prelude.{nat_abs, All}
 use Rattle.std.specs.List.{list_all}
-use Rattle.std.specs.Option.{option_or}
 use Rattle.std.proofs.Math.Path.{fun_ext}
-use Rattle.std.proofs.lemmas.List.Elements.{All-cons, All-nil, All-head, All-tail}
+use Rattle.std.proofs.lemmas.List.Elements.{All-cons, All-nil}
 use Rattle.cf_model.specs.Pointwise.{restricted}
 use Rattle.cf_model.specs.Quantified.{over_all, some_setting, every_setting, composed, both}
 use Rattle.cf_model.specs.Terms.{is_true}
@@ -16,9 +15,9 @@ use Rattle.cf_pkg.specs.Jobs.{HasValues, value_in}
 use Rattle.cf_restrict.specs.Quantified.{some_value, IsFirstFailing}
 use Rattle.cf_reference.specs.declared.grammar.Head.{Head}
 use Rattle.cf_reference.specs.declared.grammar.Head.TheVariants.{Restrict, Exists, Forall, SumOut, Compose, AndExists}
-use Rattle.cf_reference.specs.declared.grammar.Kind.TheVariants.{Expression as AnExpression, Variable as AVariable, Bit as ABit}
+use Rattle.cf_reference.specs.declared.grammar.Kind.TheVariants.{Variable as AVariable}
 use Rattle.cf_reference.specs.States.{at, is_below}
-use Rattle.cf_reference.specs.Calls.{Meant, Function, Position, Number, positions, places, levels, call, call_refusal}
+use Rattle.cf_reference.specs.Calls.{Meant, Function, Position, Number, positions, places, call_refusal}
 use Rattle.cf_reference.specs.Failures.{first_failure}
 use Rattle.cf_reference.proofs.WalkLaws.{ruled}
 use Rattle.cf_reference.proofs.TestFacts.{left, right}

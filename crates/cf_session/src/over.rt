@@ -10,8 +10,10 @@ ghost use Rattle.cf_session.specs.Keeping.{IsJobKept, AnswersCall};
 
 use crate::faults::StepFault;
 use crate::session::Session;
-use crate::values::{Value, function_and_variables, function_position_bit, function_position_function};
-use crate::values::{is_set, positions, two_functions_and_variables};
+use crate::values::{
+    Value, function_and_variables, function_position_bit, function_position_function, is_set,
+    positions, two_functions_and_variables,
+};
 use cf_pkg::Func;
 
 impl Session {

@@ -1,4 +1,4 @@
-use Rattle.std.proofs.Common.{arith, rules, ap, sym, subst, suc, ◌+◌, ◌≡◌, ◌++◌, ◌∷◌, [], ◌∙◌, ◌<◌}
+use Rattle.std.proofs.Common.{arith, rules, ap, sym, suc, ◌+◌, ◌≡◌, ◌++◌, ◌∷◌, [], ◌∙◌, ◌<◌}
 use Rattle.std.specs.Prelude.{nat_abs, take}
 use mir.Val.{SFits}
 use Rattle.std.specs.Int.{w128}

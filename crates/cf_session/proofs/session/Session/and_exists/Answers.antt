@@ -1,16 +1,13 @@
-use Rattle.std.proofs.Common.{List, ◌∷◌, refl, ap, sym, subst, ◌∙◌, Some}
-use Rattle.cf_model.specs.Quantified.{both, some_setting}
+use Rattle.std.proofs.Common.{List, refl, sym, subst, ◌∙◌}
 use Rattle.cf_pkg.specs.Packages.{Package}
-use Rattle.cf_reference.specs.Calls.{call_refusal}
 use Rattle.cf_reference.specs.declared.grammar.Head.TheVariants.{AndExists}
 use Rattle.cf_restrict.specs.Quantified.{AreVariables, IsJoined}
 use Rattle.cf_session.specs.declared.values.Value.{Value}
-use Rattle.cf_session.specs.declared.values.Value.TheVariants.{Function}
-use Rattle.cf_session.specs.Values.{AreOwned, places_of, meanings}
+use Rattle.cf_session.specs.Values.{AreOwned, places_of}
 use Rattle.cf_session.proofs.Growth.{held, grown_from, flat}
 use Rattle.cf_session.proofs.Jobs.{calls_told}
 use Rattle.cf_session.proofs.VariableLaws.{joined_calls}
-use Rattle.cf_session.proofs.OverFacts.{over_ok, over_err, joined_low, all_low, some_variables, joined_values, joined_known}
+use Rattle.cf_session.proofs.OverFacts.{over_ok, joined_low, all_low, some_variables, joined_values, joined_known}
 use Rattle.cf_session.proofs.session.Session.and_exists.Goals as goal
 
 pub positions-requires-clause-low : goal.positions-requires-clause-low

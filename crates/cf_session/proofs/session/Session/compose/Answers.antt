@@ -1,4 +1,4 @@
-use Rattle.std.proofs.Common.{rules, refl, ap, sym, subst, ◌∙◌, Some, Ok, Err}
+use Rattle.std.proofs.Common.{rules, refl, ap, ◌∙◌}
 use Rattle.std.specs.Prelude.{nat_abs}
 use mir.Val.{SFits}
 use Rattle.std.specs.Int.{w128}
