@@ -1,15 +1,13 @@
 -- What an answer says of the session, of the files and of what was written.
-use Rattle.std.proofs.Common.{ℕ, ◌≡◌, ◌≤◌, ◌<◌, List, Bool, true, false, refl, sym, ◌∙◌, ap, subst, arith}
+use Rattle.std.proofs.Common.{ℕ, ◌≡◌, ◌≤◌, List, Bool, true, false, refl, ap, subst, arith}
 use Rattle.std.specs.Prelude.{◌≢◌, IsTrue}
 use Rattle.cf_io.specs.Causes.{Rose}
-use Rattle.cf_io.specs.Opening.{KeepsEntries}
 use Rattle.cf_io.specs.Shown.{FilesView, SinkView}
 use Rattle.cf_pkg.specs.Packages.{Keeps}
-use Rattle.cf_reference.specs.Loading.{file_limit}
 use Rattle.cf_reference.specs.Reasons as reason
 use Rattle.cf_reference.specs.Trees.{Statement}
 use Rattle.cf_reference.specs.States.{Files}
-use Rattle.cf_reference.specs.Carrying.{Outcome, Refuses, step}
+use Rattle.cf_reference.specs.Carrying.{Outcome, step}
 use Rattle.std.proofs.lemmas.Bool.{false≢true}
 use Rattle.cf_session.specs.declared.faults.Refusal.{Refusal}
 use Rattle.cf_session.specs.declared.faults.Refusal.TheVariants.{NoFile, FileTooLarge}

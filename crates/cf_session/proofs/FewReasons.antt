@@ -3,7 +3,7 @@ use Rattle.std.proofs.Common.{ℕ, ◌≡◌, ◌≤◌, ◌^◌, cond, Bool, tr
 use Rattle.std.specs.Prelude.{is_some, is_none, not, nat_le, nat_lt, nat_abs, ◌==◌}
 use Rattle.cf_reference.specs.Replies.{value_reply}
 use Rattle.cf_reference.specs.Answers.{spelled, first_answer, list_answer, equal_answer, size_answer, stats_answer}
-use Rattle.std.specs.List.{list_all, list_any}
+use Rattle.std.specs.List.{list_all}
 use Rattle.std.specs.Option.{option_map, option_or}
 use Rattle.std.proofs.lemmas.Bool.{false≢true}
 use Rattle.cf_model.specs.FlatFunctions.{FlatFunction}

@@ -1,7 +1,6 @@
 -- The inputs of a circuit as variables.
-use Rattle.std.proofs.Common.{ℕ, zero, suc, ◌≡◌, ◌≤◌, ◌<◌, ◌+◌, ◌^◌, Bool, true, false, cond, ◌||◌, List, [], ◌∷◌, ◌++◌, drop, map, length, get_or, refl, sym, ◌∙◌, ap, arith, subst, Option, Some, None, drop-cons, add-one}
+use Rattle.std.proofs.Common.{ℕ, suc, ◌≡◌, ◌≤◌, ◌<◌, ◌+◌, ◌^◌, Bool, true, false, cond, ◌||◌, List, [], ◌∷◌, ◌++◌, drop, map, length, get_or, refl, sym, ◌∙◌, ap, arith, subst, Option, Some, None, drop-cons, add-one}
 use Rattle.std.specs.Prelude.{All, is_some, nat_le}
-use Rattle.std.specs.List.{list_any}
 use Rattle.std.specs.Option.{option_map, option_or}
 use Rattle.std.specs.Str.{bytes_eq}
 use Rattle.std.proofs.lemmas.Bool.{false≢true}
@@ -17,7 +16,7 @@ use Rattle.cf_reference.specs.Reasons.{Refusal, Taken, TooManyVariables, where_h
 use Rattle.cf_reference.specs.States.{State, level_in, is_among, is_bound, function_named, names_in, repeats}
 use Rattle.cf_reference.specs.Loading.{with_input, with_inputs, input_refusal, inputs_refusal}
 use Rattle.cf_reference.proofs.NameLaws.{differ-vars}
-use Rattle.cf_session.specs.Sessions.{Names, names_of, state_of}
+use Rattle.cf_session.specs.Sessions.{Names, names_of}
 use Rattle.cf_session.specs.Bindings.{place_in, bind}
 use Rattle.cf_session.specs.Statements.{ArePositions}
 use Rattle.cf_session.specs.declared.faults.StepFault.{StepFault}
@@ -284,4 +283,3 @@ place-below bound name n e =
     let inside = place-within (names_of bound) name there.0 in
     let many = count bound in
     omega (arith, inside, there.1, many)
-

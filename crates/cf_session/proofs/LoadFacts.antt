@@ -1,12 +1,11 @@
 -- What a circuit's file does to a session.
-use Rattle.std.proofs.Common.{ℕ, zero, suc, ◌≡◌, ◌≤◌, ◌<◌, ◌+◌, ◌^◌, Bool, true, false, List, [], ◌∷◌, map, length, refl, sym, ◌∙◌, ap, arith, subst, Option, Some, None}
-use Rattle.std.specs.Prelude.{All, is_some, IsSome, slice_get, unwrap_or}
+use Rattle.std.proofs.Common.{ℕ, zero, suc, ◌≡◌, ◌≤◌, ◌<◌, ◌^◌, true, false, List, [], ◌∷◌, map, length, refl, sym, ◌∙◌, ap, arith, subst, Option, Some, None}
+use Rattle.std.specs.Prelude.{All, IsSome, slice_get, unwrap_or}
 use Rattle.std.specs.Str.{bytes_eq}
 use Rattle.std.proofs.lemmas.Option.{none-some, same_Some}
 use Rattle.cf_model.specs.Diagrams.{IsGood}
-use Rattle.cf_model.specs.FlatFunctions.{FlatFunction, variable}
+use Rattle.cf_model.specs.FlatFunctions.{variable}
 use Rattle.cf_model.specs.Renumbering.{place}
-use Rattle.cf_blif.specs.declared.faults.BlifFault.TheVariants as text
 use Rattle.cf_circuits.specs.declared.models.ModelDef.{ModelDef}
 use Rattle.cf_circuits.specs.declared.faults.BlifWhy.{BlifWhy}
 use Rattle.cf_circuits.specs.declared.faults.LinkFault.{LinkFault}
@@ -18,11 +17,11 @@ use Rattle.cf_circuit.specs.Functions.{AreFunctionsOf}
 use Rattle.cf_flat.specs.declared.flat.Flat.{Flat}
 use Rattle.cf_flat.specs.declared.flat.Out.{Out}
 use Rattle.cf_pkg.specs.declared.Func.{Func}
-use Rattle.cf_pkg.specs.Packages.{Package, OwnsFunction, Keeps, Means, meaning}
+use Rattle.cf_pkg.specs.Packages.{Package, Keeps, Means, meaning}
 use Rattle.cf_pkg.proofs.Valued.{Keeps-trans}
 use Rattle.cf_reference.specs.Reasons.{Refusal, Taken}
 use Rattle.cf_reference.specs.States.{State, Files, content_of, level_in, is_among, names_in, repeats}
-use Rattle.cf_reference.specs.Loading.{file_limit, with_inputs, inputs_refusal, output_name, outputs_clash, with_outputs, output_function, declared_for, with_circuit}
+use Rattle.cf_reference.specs.Loading.{file_limit, with_inputs, inputs_refusal, outputs_clash, with_outputs, output_function, declared_for, with_circuit}
 use Rattle.cf_reference.specs.Carrying.{Refuses, Goes, load_bytes, load_circuit}
 use Rattle.cf_reference.proofs.LoadLaws.{load-no-file, load-content, load-too-large, load-Circuit, load-Links, load-inputs, load-outputs, load-goes}
 use Rattle.cf_io.specs.Shown.{FilesView}
@@ -42,7 +41,7 @@ use Rattle.cf_session.specs.declared.faults.StepFault.TheVariants.{NoMemory, Ref
 use Rattle.cf_session.specs.Faults.{reason_of}
 use Rattle.cf_session.specs.Sessions.{Held, Names, names_of, IsHeld, state_of}
 use Rattle.cf_session.specs.Statements.{ArePositions, IsFaultOfStep}
-use Rattle.cf_session.specs.Loads.{fault_of_file, IsFaultOfLoad, ShowsFault, IsCircuitOf, IsFaultOfText, IsFaultOfNames, held_by, state_by, bind_outputs, names_out}
+use Rattle.cf_session.specs.Loads.{fault_of_file, IsFaultOfLoad, ShowsFault, IsCircuitOf, IsFaultOfText, IsFaultOfNames, state_by, bind_outputs, names_out}
 use Rattle.cf_session.proofs.Growth.{same_bindings, all_owned, means_kept}
 use Rattle.cf_session.proofs.InputFacts.{HoldsInputs, holds-inputs, inputs-only, inputs-there}
 use Rattle.cf_session.proofs.OutputFacts.{output-means, outputs-owned, bound-owned, bound-outputs, outputs-differ}

@@ -1,5 +1,5 @@
 -- The outputs of a circuit as functions.
-use Rattle.std.proofs.Common.{ℕ, zero, suc, ◌≡◌, ◌≤◌, ◌<◌, ◌+◌, Bool, true, false, cond, ◌||◌, List, [], ◌∷◌, ◌++◌, drop, map, length, refl, sym, ◌∙◌, ap, arith, subst, Option, Some, None}
+use Rattle.std.proofs.Common.{ℕ, zero, suc, ◌≡◌, ◌<◌, Bool, true, false, ◌||◌, List, [], ◌∷◌, ◌++◌, drop, map, length, refl, sym, ◌∙◌, ap, arith, subst, Some}
 use Rattle.std.specs.Prelude.{All, slice_get}
 use Rattle.std.specs.List.{list_any}
 use Rattle.std.specs.Str.{bytes_eq}
@@ -8,7 +8,7 @@ use Rattle.std.proofs.lemmas.Option.{same_Some, none-some, slice_get_within}
 use Rattle.std.proofs.lemmas.List.Elements.{All-cons, All-nil, All-head, All-tail}
 use Rattle.cf_model.specs.Assignments.{bit_at}
 use Rattle.cf_model.specs.Diagrams.{IsGood}
-use Rattle.cf_model.specs.FlatFunctions.{FlatFunction, IsAssignment, tabulated}
+use Rattle.cf_model.specs.FlatFunctions.{FlatFunction}
 use Rattle.cf_model.specs.Renumbering.{place}
 use Rattle.cf_model.specs.Terms.{truth}
 use Rattle.cf_circuits.specs.declared.models.ModelDef.{ModelDef}

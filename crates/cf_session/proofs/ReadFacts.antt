@@ -1,9 +1,9 @@
 -- Reading a file to its end.
-use Rattle.std.proofs.Common.{ℕ, suc, ◌≡◌, ◌≤◌, ◌<◌, ◌+◌, ◌-◌, ◌^◌, Bool, true, false, List, [], ◌∷◌, ◌++◌, take, length, refl, sym, ◌∙◌, ap, arith, subst, Option, Some, None}
+use Rattle.std.proofs.Common.{ℕ, ◌≡◌, ◌≤◌, ◌<◌, ◌-◌, true, List, [], ◌++◌, take, length, refl, sym, ◌∙◌, ap, arith, subst, Some}
 use Rattle.std.specs.Prelude.{IsTrue, min}
 use Rattle.std.proofs.lemmas.List.{append_assoc, append-nil, length-append, length-take-le}
 use Rattle.cf_io.specs.Causes.{Rose}
-use Rattle.cf_io.specs.Opening.{Opens, KeepsEntries, ReadsOn}
+use Rattle.cf_io.specs.Opening.{Opens, ReadsOn}
 use Rattle.cf_io.specs.Shown.{FilesView, FilesAreTold}
 use Rattle.cf_io.specs.declared.files.Opened.{Opened}
 use Rattle.cf_io.specs.declared.files.Opened.TheVariants as opened

@@ -1,4 +1,4 @@
-use Rattle.std.specs.Prelude.{◌≡◌, ◌≤◌, ◌<◌, ◌∷◌, ℕ, List, [], map, length, Option, Some, None}
+use Rattle.std.specs.Prelude.{◌≡◌, ◌≤◌, ◌<◌, ◌∷◌, ℕ, List, map, length, Option, Some, None}
 use Rattle.cf_blif.specs.declared.faults.BlifFault.{BlifFault}
 use Rattle.cf_blif.specs.declared.faults.BlifFault.TheVariants as text
 use Rattle.cf_flat.specs.declared.flattening.FlatFault.{FlatFault}

@@ -193,11 +193,7 @@ fn outputs_clash(
 }
 
 /// The positions of variables.
-fn positions_of(
-    alloc: Global,
-    variables: &Bindings,
-    names: &[Name],
-) -> Result<Vec<u8>, NoMemory>
+fn positions_of(alloc: Global, variables: &Bindings, names: &[Name]) -> Result<Vec<u8>, NoMemory>
     requires few { length variables.now ≤ 128 }
     requires there { All (λ name. is_among (names_of variables.now) name ≡ true) names.now }
     ensures { IfOk result (λ positions. positions.items

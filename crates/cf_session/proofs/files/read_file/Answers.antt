@@ -1,4 +1,4 @@
-use Rattle.std.proofs.Common.{◌++◌, List, ℕ, length, take, sym, ap, ◌∙◌, subst, arith}
+use Rattle.std.proofs.Common.{◌++◌, length, take, sym, ap, ◌∙◌, subst, arith}
 use Rattle.std.proofs.lemmas.List.{with_items_is}
 use Rattle.cf_io.specs.Opening.{Opens}
 use Rattle.cf_session.proofs.ReadFacts.{HasRead, read-none, read-more, read-end, read-kept, read-failed, read-large, read-too-large, read-smaller, room-within, room-left, piece-there}
@@ -7,8 +7,8 @@ use Rattle.cf_session.proofs.files.read_file.Goals as goal
 pub loop-bytes-init : goal.loop-bytes-init
 loop-bytes-init g c = (
   subst (HasRead (g.F.Files.shown c.args.files.now) (g.F.Files.shown c.open.new.self) c.args.name.now) (sym c.new-bytes.ensures.items)
-  (read-none (g.F.Files.shown c.args.files.now) (g.F.Files.shown c.open.new.self) c.args.name.now
-  (subst (λ a. Opens (g.F.Files.shown c.args.files.now) (g.F.Files.shown c.open.new.self) c.args.name.now a) c.in-Opened.is c.open.ensures)),
+      (read-none (g.F.Files.shown c.args.files.now) (g.F.Files.shown c.open.new.self) c.args.name.now
+      (subst (λ a. Opens (g.F.Files.shown c.args.files.now) (g.F.Files.shown c.open.new.self) c.args.name.now a) c.in-Opened.is c.open.ensures)),
   sym c.in_ok-piece.piece.ok.0 ∙ c.in_ok-piece.ensures.len,
 )
 
@@ -40,14 +40,13 @@ loop-bytes-smaller g c =
 pub loop-bytes-preserved : goal.loop-bytes-preserved
 loop-bytes-preserved g c =
     let buf = c.read_front.new.buf in
-    let room = room-within c.min-room.result c.len-in-loop-bytes.result (length c.deref_mut.result.now) c.min-room.ensures (ap length c.deref_mut.ensures.value ∙ c.loop-bytes.invariant.1) in
-    (
+    let room = room-within c.min-room.result c.len-in-loop-bytes.result (length c.deref_mut.result.now) c.min-room.ensures (ap length c.deref_mut.ensures.value ∙ c.loop-bytes.invariant.1) in (
       read-more (g.F.Files.shown c.args.files.now) (g.F.Files.shown c.loop-bytes.files) (g.F.Files.shown c.read_front.new.files) c.args.name.now c.loop-bytes.bytes.items c.extend_from_slice.new.self.items buf c.in-Got.count c.min-room.result
-      c.loop-bytes.invariant.0 c.in-Got.ensures.reads c.in-Got.ensures.bound.1
-      (room-left c.min-room.result c.len-in-loop-bytes.result (length c.loop-bytes.bytes.items) c.min-room.ensures (c.len-in-loop-bytes.ensures ∙ c.loop-bytes.bytes.ok.0))
-      (omega (arith, room, c.in-Got.ensures.bound.1, c.in-Got.ensures.size))
-      (c.in_ok-extend_from_slice-in-Got.ensures.items
-      ∙ ap (λ b. c.loop-bytes.bytes.items ++ take c.in-Got.count b) (c.deref.ensures.value ∙ with_items_is c.loop-bytes.piece buf (c.in-Got.ensures.size ∙ c.deref_mut.ensures.len))),
+          c.loop-bytes.invariant.0 c.in-Got.ensures.reads c.in-Got.ensures.bound.1
+          (room-left c.min-room.result c.len-in-loop-bytes.result (length c.loop-bytes.bytes.items) c.min-room.ensures (c.len-in-loop-bytes.ensures ∙ c.loop-bytes.bytes.ok.0))
+          (omega (arith, room, c.in-Got.ensures.bound.1, c.in-Got.ensures.size))
+          (c.in_ok-extend_from_slice-in-Got.ensures.items
+          ∙ ap (λ b. c.loop-bytes.bytes.items ++ take c.in-Got.count b) (c.deref.ensures.value ∙ with_items_is c.loop-bytes.piece buf (c.in-Got.ensures.size ∙ c.deref_mut.ensures.len))),
       ap length (with_items_is c.loop-bytes.piece buf (c.in-Got.ensures.size ∙ c.deref_mut.ensures.len)) ∙ c.in-Got.ensures.size ∙ ap length c.deref_mut.ensures.value ∙ c.loop-bytes.invariant.1,
     )
 

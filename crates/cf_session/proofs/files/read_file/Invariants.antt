@@ -1,4 +1,4 @@
-use Rattle.std.specs.Prelude.{◌≡◌, ◌-◌, ℕ, length}
+use Rattle.std.specs.Prelude.{◌≡◌, ◌-◌, length}
 use Rattle.cf_session.proofs.ReadFacts.{HasRead}
 use Rattle.cf_session.proofs.files.read_file.Given as goal
 

@@ -1,7 +1,6 @@
 use Rattle.std.proofs.Common.{◌<◌, ◌≡◌, true, List, [], None, map, length, refl, sym, ap, subst, ◌∙◌}
 use Rattle.std.specs.Prelude.{All}
 use Rattle.std.specs.Str.{bytes_eq}
-use Rattle.cf_model.specs.FlatFunctions.{variable}
 use Rattle.cf_model.specs.Renumbering.{place}
 use Rattle.cf_flat.specs.declared.flat.Out.{Out}
 use Rattle.cf_pkg.specs.declared.Func.{Func}
