@@ -1,15 +1,14 @@
 //! A session that builds an expression twice.
 
-use crate::running::run_script;
-use cf_io::{MemFiles, MemSink, MemSource};
+use cf_io::{MemFiles, MemSink};
 use cf_script::parse_line;
 use cf_session::{Session, Stepped};
 use cf_text::Text;
-use cf_top::Status;
+use std::alloc::{AllocError, Global};
 use std::test::Fail;
 
 const LET: &[u8] =
-    b"let y = xor(and(@0, @64, not(@127)), ite(plus(@1, @2), times(3, @65), neg(@3)))\n";
+    b"let y = xor(and(@0, @64, not(@127)), ite(plus(@1, @2), times(3, @65), neg(@3)))";
 
 /// How many groupings each level has.
 fn counts(session: &Session) -> [u64; 8] {
@@ -21,23 +20,25 @@ fn counts(session: &Session) -> [u64; 8] {
     counts
 }
 
+/// Whether a line is a statement that the session carries out.
+fn carries_out(alloc: Global, session: &mut Session, line: &[u8]) -> Result<bool, AllocError> {
+    let mut sink = MemSink::new(alloc, 100, 100, Vec::new(alloc))?;
+    let mut files = MemFiles::new(Vec::new(alloc), 1, Vec::new(alloc));
+    let Ok(statement) = parse_line(alloc, line) else {
+        return Ok(false);
+    };
+    let stepped = session.step(&mut files, &statement, &mut Text::new(), &mut sink);
+    Ok(matches!(stepped, Stepped::Written))
+}
+
 #[test]
 fn an_expression_built_twice_adds_no_grouping(rt: HostRuntime) -> Result<(), Fail> {
     let alloc = rt.alloc();
-    let mut script = b"level 7\n".to_vec(alloc)?;
-    script.extend_from_slice(LET)?;
-    let mut source = MemSource::new(script, 100, 0, Vec::new(alloc));
-    let mut sink = MemSink::new(alloc, 100, 100, Vec::new(alloc))?;
     let mut session = Session::new(alloc)?;
-    let status = run_script(alloc, &mut session, &mut source, &mut sink)?;
-    assert_eq!(rt; status, Status::Done);
+    assert!(rt; carries_out(alloc, &mut session, b"level 7")?);
+    assert!(rt; carries_out(alloc, &mut session, LET)?);
     let once = counts(&session);
-    let Ok(again) = parse_line(alloc, &LET[..LET.len() - 1]) else {
-        panic!(rt; "the line is a statement");
-    };
-    let mut files = MemFiles::new(Vec::new(alloc), 1, Vec::new(alloc));
-    let stepped = session.step(&mut files, &again, &mut Text::new(), &mut sink);
-    assert!(rt; matches!(stepped, Stepped::Written));
+    assert!(rt; carries_out(alloc, &mut session, LET)?);
     assert_eq!(rt; counts(&session).as_slice(), once.as_slice());
     Ok(())
 }

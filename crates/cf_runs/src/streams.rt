@@ -4,25 +4,39 @@ use crate::running::run_script;
 use cf_io::{HostSink, HostSource, Lines, MemSink, MemSource, Next, Source, put_all};
 use cf_session::Session;
 use cf_top::Status;
-use std::alloc::Global;
+use std::alloc::{AllocError, Global};
 use std::io::{self, ErrorKind, Read, Write};
 use std::test::Fail;
 
 const SCRIPT: &[u8] = b"level 0\nlet f = @0\nvalue f 0\nvalue f 1\n";
 
-/// The status of a run whose reads and writes of given numbers fail, and what it has written.
-fn answer(alloc: Global, reads: &[u64], writes: &[u64]) -> Result<(Status, Vec<u8>), Fail> {
-    let mut source = MemSource::new(SCRIPT.to_vec(alloc)?, 12, 0, reads.to_vec(alloc)?);
-    let mut sink = MemSink::new(alloc, 100, 100, writes.to_vec(alloc)?)?;
+/// The script, of which the reads of these numbers fail.
+fn failing_source(alloc: Global, reads: &[u64]) -> Result<MemSource, AllocError> {
+    let script = SCRIPT.to_vec(alloc)?;
+    Ok(MemSource::new(script, 12, 0, reads.to_vec(alloc)?))
+}
+
+/// A sink of which the writes of these numbers fail.
+fn failing_sink(alloc: Global, writes: &[u64]) -> Result<MemSink, AllocError> {
+    MemSink::new(alloc, 100, 100, writes.to_vec(alloc)?)
+}
+
+/// How a run ends whose reads and writes of given numbers fail.
+fn status_of(
+    alloc: Global,
+    source: &mut MemSource,
+    sink: &mut MemSink,
+) -> Result<Status, AllocError> {
     let mut session = Session::new(alloc)?;
-    let status = run_script(alloc, &mut session, &mut source, &mut sink)?;
-    Ok((status, sink.bytes().to_vec(alloc)?))
+    run_script(alloc, &mut session, source, sink)
 }
 
 #[test]
 fn a_read_that_fails_ends_the_run_after_the_lines_before_it(rt: HostRuntime) -> Result<(), Fail> {
-    let (status, written) = answer(rt.alloc(), &[3], &[])?;
-    assert_eq!(rt; written.as_slice(), b"0\n".as_slice());
+    let mut source = failing_source(rt.alloc(), &[3])?;
+    let mut sink = failing_sink(rt.alloc(), &[])?;
+    let status = status_of(rt.alloc(), &mut source, &mut sink)?;
+    assert_eq!(rt; sink.bytes(), b"0\n".as_slice());
     assert_eq!(rt; status, Status::ReadFault);
     Ok(())
 }
@@ -31,8 +45,10 @@ fn a_read_that_fails_ends_the_run_after_the_lines_before_it(rt: HostRuntime) -> 
 fn a_write_that_fails_ends_the_run_after_the_replies_before_it(
     rt: HostRuntime,
 ) -> Result<(), Fail> {
-    let (status, written) = answer(rt.alloc(), &[], &[1])?;
-    assert_eq!(rt; written.as_slice(), b"0\n".as_slice());
+    let mut source = failing_source(rt.alloc(), &[])?;
+    let mut sink = failing_sink(rt.alloc(), &[1])?;
+    let status = status_of(rt.alloc(), &mut source, &mut sink)?;
+    assert_eq!(rt; sink.bytes(), b"0\n".as_slice());
     assert_eq!(rt; status, Status::WriteFault);
     Ok(())
 }
