@@ -1,6 +1,6 @@
 #!/usr/bin/env bash
 # Runs each script of examples/, tests/edges/ and tests/refusals/ on the built program, and compares what it writes and
-# its status. A script has ten seconds.
+# its status, and then the commands that the documents show. A script has ten seconds.
 # NAME.cfl is the script, NAME.out what has to be written, NAME.status the status where it isn't 0, and NAME.words the
 # program's words where they aren't `run`.
 set -u
@@ -26,5 +26,7 @@ for script in examples/*.cfl tests/edges/*.cfl tests/refusals/*.cfl; do
         head -n 20 "$answer"
     fi
 done
+# The commands that the documents show.
+if tests/shown.py README.md docs/TOUR.md; then passed=$((passed + 1)); else failed=$((failed + 1)); fi
 echo "$passed passed, $failed failed"
 [ "$passed" -gt 0 ] && [ "$failed" -eq 0 ]

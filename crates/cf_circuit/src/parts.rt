@@ -5,21 +5,22 @@ ghost use Rattle.cf_circuit.specs.Planes.{IsWide, AreParted, plane_at, cell_at, 
 
 use crate::NoMemory;
 use cf_circuits::gates::{Cell, Cells};
+use smallvec::SmallVec;
 use std::alloc::Global;
 
 /// Places of planes that ask for a 0 of an input, for a 1, and for nothing.
 #[derive(Drop)]
 pub(crate) struct Parts {
-    pub zeros: Vec<u64>,
-    pub ones: Vec<u64>,
-    pub others: Vec<u64>,
+    pub zeros: SmallVec<u64, 4>,
+    pub ones: SmallVec<u64, 4>,
+    pub others: SmallVec<u64, 4>,
 }
 
 /// The places of all planes.
-pub(crate) fn all_places(alloc: Global, planes: &[Cells]) -> Result<Vec<u64>, NoMemory>
+pub(crate) fn all_places(alloc: Global, planes: &[Cells]) -> Result<SmallVec<u64, 8>, NoMemory>
     ensures { IfOk result (λ places. AreAllPlaces planes.now places.items) }
 {
-    let mut places = Vec::with_capacity(alloc, planes.len())?;
+    let mut places = SmallVec::with_capacity(alloc, planes.len())?;
     for place in 0..planes.len() {
         places.push(place as u64)?;
     }
@@ -49,9 +50,9 @@ pub(crate) fn parted(
         parts.zeros.items parts.ones.items parts.others.items) }
 {
     let mut parts = Parts {
-        zeros: Vec::new(alloc),
-        ones: Vec::new(alloc),
-        others: Vec::new(alloc),
+        zeros: SmallVec::new(alloc),
+        ones: SmallVec::new(alloc),
+        others: SmallVec::new(alloc),
     };
     for place in places {
         match cell_of(planes, *place, input) {

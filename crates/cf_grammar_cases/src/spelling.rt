@@ -43,6 +43,7 @@ fn spell<W: fmt::Write>(f: &mut fmt::Formatter<W>, statement: &Statement) -> fmt
         Statement::Value(name, bits) => write!(f, "value {} {}", text(name), text(bits)),
         Statement::First(name, value) => write!(f, "first {} {value}", text(name)),
         Statement::List(name, value, most) => write!(f, "list {} {value} {most}", text(name)),
+        Statement::Entry(name, row, column) => write!(f, "entry {} {row} {column}", text(name)),
         Statement::Equal(name, other) => write!(f, "equal {} {}", text(name), text(other)),
         Statement::Size(name) => write!(f, "size {}", text(name)),
         Statement::Stats => f.write_str("stats"),
@@ -73,10 +74,7 @@ fn spell_expr<W: fmt::Write>(f: &mut fmt::Formatter<W>, e: &Expr, depth: u8) -> 
         Expr::At(position) => write!(f, "@{position}"),
         Expr::Named(name) => f.write_str(text(name)),
         Expr::Const(level, value) => write!(f, "const({level}, {value})"),
-        Expr::One(word, e) => {
-            begin_call(f, word1(*word), e, depth - 1)?;
-            f.write_str(")")
-        }
+        Expr::One(word, e) => spell_one(f, word1(*word), e, depth - 1),
         Expr::Fold(word, es) => spell_list(f, word2(*word), es, depth - 1),
         Expr::Ite(es) => spell_list(f, "ite", es, depth - 1),
         Expr::Restrict(e, var, bit) => {
@@ -98,7 +96,38 @@ fn spell_expr<W: fmt::Write>(f: &mut fmt::Formatter<W>, e: &Expr, depth: u8) -> 
             spell_expr(f, g, depth - 1)?;
             spell_rest(f, vars)
         }
+        Expr::Kron(e, g) => spell_two(f, "kron", e, g, depth - 1),
+        Expr::Matmul(e, g) => spell_two(f, "matmul", e, g, depth - 1),
+        Expr::Transpose(e) => spell_one(f, "transpose", e, depth - 1),
+        Expr::Id(level) => write!(f, "id({level})"),
+        Expr::Walsh(level) => write!(f, "walsh({level})"),
+        Expr::Unit(level, row, column) => write!(f, "unit({level}, {row}, {column})"),
     }
+}
+
+/// Spells a call of a word with one expression.
+#[cycle(calls)]
+fn spell_one<W: fmt::Write>(
+    f: &mut fmt::Formatter<W>,
+    word: &str,
+    e: &Expr,
+    depth: u8,
+) -> fmt::Result {
+    begin_call(f, word, e, depth)?;
+    f.write_str(")")
+}
+
+/// Spells a call of a word with two expressions.
+#[cycle(calls)]
+fn spell_two<W: fmt::Write>(
+    f: &mut fmt::Formatter<W>,
+    word: &str,
+    e: &Expr,
+    g: &Expr,
+    depth: u8,
+) -> fmt::Result {
+    begin_call(f, word, e, depth)?;
+    end_call(f, g, depth)
 }
 
 /// Spells a call's word and its first argument.

@@ -83,7 +83,7 @@ fn needs_of(alloc: Global, node: &Node) -> Result<Wires, NoMemory>
 {
     match node {
         Node::Input(_) => Ok(Wires::new(alloc)),
-        Node::Output(gate) => Ok(Wires::of(Vec::from_slice(alloc, gate.ins.items())?)),
+        Node::Output(gate) => Wires::copy(alloc, gate.ins.items()),
         Node::Alias(signal) => {
             let mut row = Wires::new(alloc);
             row.push(*signal)?;

@@ -1,15 +1,16 @@
 //! Lists of wires.
 
-ghost use Rattle.std.specs.Prelude.{◌≡◌, List, [], ◌∷◌, ◌++◌, OnOk, OnErr};
+ghost use Rattle.std.specs.Prelude.{◌≡◌, List, [], ◌∷◌, ◌++◌, IfOk, OnOk, OnErr};
 
 use crate::NoMemory;
+use smallvec::SmallVec;
 use std::alloc::Global;
 use std::marker::Model;
 
-/// A list of wires.
+/// A list of wires. Up to 4 stand inline.
 #[derive(Drop)]
 pub struct Wires {
-    items: Vec<u64>,
+    items: SmallVec<u64, 4>,
 }
 
 impl Model for Wires {
@@ -26,7 +27,7 @@ impl Wires {
         ensures { result ≡ [] }
     {
         Wires {
-            items: Vec::new(alloc),
+            items: SmallVec::new(alloc),
         }
     }
 
@@ -34,7 +35,18 @@ impl Wires {
     pub fn of(items: Vec<u64>) -> Wires
         ensures { result ≡ items.items }
     {
-        Wires { items }
+        Wires {
+            items: SmallVec::from_vec(items),
+        }
+    }
+
+    /// A list of the same wires.
+    pub fn copy(alloc: Global, items: &[u64]) -> Result<Wires, NoMemory>
+        ensures { IfOk result (λ wires. wires ≡ items.now) }
+    {
+        Ok(Wires {
+            items: SmallVec::from_slice(alloc, items)?,
+        })
     }
 
     /// Puts a wire at the end.

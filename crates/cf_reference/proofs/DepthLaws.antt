@@ -9,7 +9,7 @@ use Rattle.std.proofs.lemmas.Bool.{cases_lt, cases_Bool}
 use Rattle.cf_reference.specs.declared.grammar.Keyword.TheVariants as keyword
 use Rattle.cf_reference.specs.declared.grammar.Keyword.{Keyword}
 use Rattle.cf_reference.specs.declared.grammar.Head.{Head}
-use Rattle.cf_reference.specs.Heads.{Kind, AnExpression, AVariable, ANatural, ANumber, ABit, head_of, variable_head, kind_at}
+use Rattle.cf_reference.specs.Heads.{Kind, AnExpression, AVariable, ANatural, ANumber, ABit, head_of, variable_head, matrix_head, kind_at}
 use Rattle.cf_reference.specs.Words.{behind_word, before_comment, words, words_of_line, is_blank, is_sign, runs, begins_run, lengthen, open_sign, close_sign, comma, equals, natural, number, place, is_name}
 use Rattle.cf_reference.specs.Trees.{Atom, Tree, Num, At, Named, Call, Arguments, none, more, atom, depth, depths, Statement, statement_depth, statement_fits, Formed}
 use Rattle.cf_reference.specs.Grammar.{keyword_of, leaf, atom_of, lead, Calls, SpellsLeaf, SpellsEnd, SpellsTree, SpellsArguments, SpellsBehind, SpellsWords}
@@ -56,7 +56,7 @@ unfolding leaf number place natural is_name
 leaf_plain word t h = plain_by leaf word t h refl refl
 
 head_plain : (word : List ℕ) (head : Head) → head_of word ≡ Some head → IsPlain word
-unfolding head_of variable_head
+unfolding head_of variable_head matrix_head
 head_plain word head h = plain_by head_of word head h refl refl
 
 atom_plain : (kind : Kind) (word : List ℕ) (a : Atom) → atom_of kind word ≡ Some a → IsPlain word
@@ -353,6 +353,7 @@ behind_depth text word keyword.Load t bytes all of is h shallow = subst (λ u. s
 behind_depth text word keyword.Value t bytes all of is h shallow = subst (λ u. statement_depth u ≤ 64) (sym h.5) (omega arith)
 behind_depth text word keyword.First t bytes all of is h shallow = subst (λ u. statement_depth u ≤ 64) (sym h.6) (omega arith)
 behind_depth text word keyword.List t bytes all of is h shallow = subst (λ u. statement_depth u ≤ 64) (sym h.9) (omega arith)
+behind_depth text word keyword.Entry t bytes all of is h shallow = subst (λ u. statement_depth u ≤ 64) (sym h.9) (omega arith)
 behind_depth text word keyword.Equal t bytes all of is h shallow = subst (λ u. statement_depth u ≤ 64) (sym h.5) (omega arith)
 behind_depth text word keyword.Size t bytes all of is h shallow = subst (λ u. statement_depth u ≤ 64) (sym h.3) (omega arith)
 behind_depth text word keyword.Stats t bytes all of is h shallow = subst (λ u. statement_depth u ≤ 64) (sym h.1) (omega arith)

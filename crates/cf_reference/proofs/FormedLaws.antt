@@ -91,6 +91,10 @@ formed_behind keyword.List t bytes all h fit =
     let f : (fits h.3 && fits h.4) ≡ true = sym (ap statement_fits h.9) ∙ fit in
     let both = and_parts (fits h.3) (fits h.4) f in
     subst IsFormedStatement (sym h.9) (fits-true h.3 both.0, (natural-low h.2 h.4 h.8, fits-true h.4 both.1))
+formed_behind keyword.Entry t bytes all h fit =
+    let f : (fits h.3 && fits h.4) ≡ true = sym (ap statement_fits h.9) ∙ fit in
+    let both = and_parts (fits h.3) (fits h.4) f in
+    subst IsFormedStatement (sym h.9) ((natural-low h.1 h.3 h.7, fits-true h.3 both.0), (natural-low h.2 h.4 h.8, fits-true h.4 both.1))
 formed_behind keyword.Equal t bytes all h fit = subst IsFormedStatement (sym h.5) tt
 formed_behind keyword.Size t bytes all h fit = subst IsFormedStatement (sym h.3) tt
 formed_behind keyword.Stats t bytes all h fit = subst IsFormedStatement (sym h.1) tt

@@ -6,9 +6,9 @@ use Rattle.cf_model.specs.declared.terms.Word1.TheVariants.{Not, Neg}
 use Rattle.cf_model.specs.declared.terms.Word2.TheVariants.{And, Or, Xor, Plus, Minus, Times, Min, Max, Eq, Lt}
 use Rattle.cf_reference.specs.declared.grammar.Keyword.TheVariants as keyword
 use Rattle.cf_reference.specs.Words.{before_comment, words, words_of_line, open_sign, close_sign, comma, natural, number, place, is_name, is_bits, behind_run, behind_word}
-use Rattle.cf_reference.specs.declared.grammar.Head.TheVariants.{Const, One, Fold, Ite, Restrict, Exists, Forall, SumOut, Compose, AndExists}
-use Rattle.cf_reference.specs.Heads.{AVariable, ABit, head_of, variable_head, takes}
-use Rattle.cf_reference.specs.Trees.{Variable, Position, Number, Num, At, Named, Call, none, more, atom, depth, statement_fits, Empty, Level, Vars, Let, Value, First, Listed}
+use Rattle.cf_reference.specs.declared.grammar.Head.TheVariants.{Const, One, Fold, Ite, Restrict, Exists, Forall, SumOut, Compose, AndExists, Kron, Matmul, Transpose, Id, Walsh, Unit}
+use Rattle.cf_reference.specs.Heads.{AVariable, ABit, head_of, variable_head, matrix_head, takes}
+use Rattle.cf_reference.specs.Trees.{Variable, Position, Number, Num, At, Named, Call, none, more, atom, depth, statement_fits, Empty, Level, Vars, Let, Value, First, Listed, Entry}
 use Rattle.cf_reference.specs.Grammar.{keyword_of, leaf, atom_of, Spells}
 use Rattle.cf_reference.specs.LineRefusals.{IsDeep, Good, Malformed, WideNumber, TooDeep}
 use Rattle.cf_reference.specs.Parsing.{readers, statement_at, is_deep, parse}
@@ -81,7 +81,7 @@ const_words = codes "const" ∷ open_sign ∷ codes "2" ∷ comma ∷ codes "-1"
 
 -- a blank may stand before `(`
 let_call : Spells (codes "let f = not (const(2,-1))") (Let (codes "f") (Call (One Not) (more (Call Const (atom (Number (pos 2)) (atom (Number (negsuc 0)) none))) none)))
-unfolding before_comment words keyword_of head_of variable_head atom_of number natural is_name
+unfolding before_comment words keyword_of head_of variable_head matrix_head atom_of number natural is_name
 let_call = record {
   words = (
     keyword.Let,
@@ -167,31 +167,39 @@ unfolding before_comment words is_deep statement_at keyword_of is_name
 vars_line = (refl, refl, refl)
 
 fold_line : parse (codes "let f = and(x,@1)") ≡ Good (Let (codes "f") (Call (Fold And) (more (Named (codes "x")) (more (At (pos 1)) none))))
-unfolding before_comment words is_deep statement_at readers keyword_of head_of variable_head leaf atom_of number place natural is_name
+unfolding before_comment words is_deep statement_at readers keyword_of head_of variable_head matrix_head leaf atom_of number place natural is_name
 fold_line = refl
 
 -- a fold of one argument, three arguments of `minus`, a word behind the expression, and a form that isn't built
-malformed_lines : (parse (codes "let f = and(x)") ≡ Malformed) × (parse (codes "let f = minus(1,2,3)") ≡ Malformed) × (parse (codes "let f = x y") ≡ Malformed) × (parse (codes "let f = matmul(x,y)") ≡ Malformed)
-unfolding before_comment words is_deep statement_at readers keyword_of head_of variable_head leaf atom_of number place natural is_name
+malformed_lines : (parse (codes "let f = and(x)") ≡ Malformed) × (parse (codes "let f = minus(1,2,3)") ≡ Malformed) × (parse (codes "let f = x y") ≡ Malformed) × (parse (codes "let f = unless(x,y)") ≡ Malformed)
+unfolding before_comment words is_deep statement_at readers keyword_of head_of variable_head matrix_head leaf atom_of number place natural is_name
 malformed_lines = (refl, refl, refl, refl)
 
 -- variables by their positions and names, each in its place
 restrict_line : parse (codes "let f = restrict(x,@1,0)") ≡ Good (Let (codes "f") (Call Restrict (more (Named (codes "x")) (atom (Position (pos 1)) (atom (Number (pos 0)) none)))))
-unfolding before_comment words is_deep statement_at readers keyword_of head_of variable_head leaf atom_of number place natural is_name
+unfolding before_comment words is_deep statement_at readers keyword_of head_of variable_head matrix_head leaf atom_of number place natural is_name
 restrict_line = refl
 
 exists_line : parse (codes "let f = exists(x,a,@07)") ≡ Good (Let (codes "f") (Call Exists (more (Named (codes "x")) (atom (Variable (codes "a")) (atom (Position (pos 7)) none)))))
-unfolding before_comment words is_deep statement_at readers keyword_of head_of variable_head leaf atom_of number place natural is_name
+unfolding before_comment words is_deep statement_at readers keyword_of head_of variable_head matrix_head leaf atom_of number place natural is_name
 exists_line = refl
 
 compose_line : parse (codes "let f = compose(x,a,@1)") ≡ Good (Let (codes "f") (Call Compose (more (Named (codes "x")) (atom (Variable (codes "a")) (more (At (pos 1)) none)))))
-unfolding before_comment words is_deep statement_at readers keyword_of head_of variable_head leaf atom_of number place natural is_name
+unfolding before_comment words is_deep statement_at readers keyword_of head_of variable_head matrix_head leaf atom_of number place natural is_name
 compose_line = refl
 
 -- a bit of two digits, a number for a variable, and an expression for one
 no_variables : (parse (codes "let f = restrict(x,a,01)") ≡ Malformed) × (parse (codes "let f = compose(x,1,y)") ≡ Malformed) × (parse (codes "let f = exists(x,not(a))") ≡ Malformed)
-unfolding before_comment words is_deep statement_at readers keyword_of head_of variable_head leaf atom_of number place natural is_name
+unfolding before_comment words is_deep statement_at readers keyword_of head_of variable_head matrix_head leaf atom_of number place natural is_name
 no_variables = (refl, refl, refl)
+
+unit_line : parse (codes "let f = unit(1,02,0)") ≡ Good (Let (codes "f") (Call Unit (atom (Number (pos 1)) (atom (Number (pos 2)) (atom (Number (pos 0)) none)))))
+unfolding before_comment words is_deep statement_at readers keyword_of head_of variable_head matrix_head leaf atom_of number place natural is_name
+unit_line = refl
+
+entry_line : (parse (codes "entry f 1 007") ≡ Good (Entry (codes "f") (pos 1) (pos 7))) × (parse (codes "entry f 1") ≡ Malformed) × (parse (codes "entry f -1 0") ≡ Malformed)
+unfolding before_comment words is_deep statement_at keyword_of number natural is_name
+entry_line = (refl, refl, refl)
 
 -- a number that doesn't fit yields to a line's form, and both yield to its parentheses
 refused_lines : (parse (codes "level 170141183460469231731687303715884105728") ≡ WideNumber) × (parse (codes "level 170141183460469231731687303715884105728 7") ≡ Malformed)
@@ -211,36 +219,40 @@ bits_alone = (refl, refl)
 
 -- each word that calls
 heads_of_one : (head_of (codes "not") ≡ Some (One Not)) × (head_of (codes "neg") ≡ Some (One Neg))
-unfolding head_of variable_head
+unfolding head_of variable_head matrix_head
 heads_of_one = (refl, refl)
 
 heads_of_truths : (head_of (codes "and") ≡ Some (Fold And)) × (head_of (codes "or") ≡ Some (Fold Or)) × (head_of (codes "xor") ≡ Some (Fold Xor))
-unfolding head_of variable_head
+unfolding head_of variable_head matrix_head
 heads_of_truths = (refl, refl, refl)
 
 heads_of_numbers : (head_of (codes "plus") ≡ Some (Fold Plus)) × (head_of (codes "minus") ≡ Some (Fold Minus)) × (head_of (codes "times") ≡ Some (Fold Times))
-unfolding head_of variable_head
+unfolding head_of variable_head matrix_head
 heads_of_numbers = (refl, refl, refl)
 
 heads_of_orders : (head_of (codes "min") ≡ Some (Fold Min)) × (head_of (codes "max") ≡ Some (Fold Max)) × (head_of (codes "eq") ≡ Some (Fold Eq)) × (head_of (codes "lt") ≡ Some (Fold Lt))
-unfolding head_of variable_head
+unfolding head_of variable_head matrix_head
 heads_of_orders = (refl, refl, refl, refl)
 
 heads_over_variables : (head_of (codes "restrict") ≡ Some Restrict) × (head_of (codes "exists") ≡ Some Exists) × (head_of (codes "forall") ≡ Some Forall) × (head_of (codes "sumout") ≡ Some SumOut)
-unfolding head_of variable_head
+unfolding head_of variable_head matrix_head
 heads_over_variables = (refl, refl, refl, refl)
 
 heads_of_two_functions : (head_of (codes "compose") ≡ Some Compose) × (head_of (codes "andexists") ≡ Some AndExists)
-unfolding head_of variable_head
+unfolding head_of variable_head matrix_head
 heads_of_two_functions = (refl, refl)
 
+heads_of_matrices : (head_of (codes "kron") ≡ Some Kron) × (head_of (codes "matmul") ≡ Some Matmul) × (head_of (codes "transpose") ≡ Some Transpose) × (head_of (codes "id") ≡ Some Id) × (head_of (codes "walsh") ≡ Some Walsh) × (head_of (codes "unit") ≡ Some Unit)
+unfolding head_of variable_head matrix_head
+heads_of_matrices = (refl, refl, refl, refl, refl, refl)
+
 other_heads : (head_of (codes "const") ≡ Some Const) × (head_of (codes "ite") ≡ Some Ite)
-unfolding head_of variable_head
+unfolding head_of variable_head matrix_head
 other_heads = (refl, refl)
 
 -- a word that calls nothing
 no_head : parse (codes "let f = unless(x,y,1)") ≡ Malformed
-unfolding before_comment words is_deep statement_at readers keyword_of head_of variable_head leaf atom_of number place natural is_name
+unfolding before_comment words is_deep statement_at readers keyword_of head_of variable_head matrix_head leaf atom_of number place natural is_name
 no_head = refl
 
 -- the bytes behind the first word, with the blanks before them

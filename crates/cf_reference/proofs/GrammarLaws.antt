@@ -143,6 +143,7 @@ unique_behind keyword.Load t u bytes all h k = cc
 unique_behind keyword.Value t u bytes all h k = cc
 unique_behind keyword.First t u bytes all h k = cc
 unique_behind keyword.List t u bytes all h k = cc
+unique_behind keyword.Entry t u bytes all h k = cc
 unique_behind keyword.Equal t u bytes all h k = cc
 unique_behind keyword.Size t u bytes all h k = cc
 unique_behind keyword.Stats t u bytes all h k = cc

@@ -10,7 +10,7 @@ use Rattle.cf_reference.specs.Words.{begins_name, decimal_value, natural, number
 use Rattle.std.specs.Str.{bytes_eq}
 use Rattle.std.proofs.lemmas.Slice.Eq.{bytes_eq-Decides}
 use Rattle.cf_reference.specs.declared.grammar.Head.{Head}
-use Rattle.cf_reference.specs.Heads.{value_table, variable_table, variable_head, found_in, head_of}
+use Rattle.cf_reference.specs.Heads.{value_table, variable_table, matrix_table, variable_head, matrix_head, found_in, head_of}
 use Rattle.cf_reference.specs.Trees.{Num, At, Named}
 use Rattle.cf_reference.specs.Grammar.{leaf, leaf_of_place, leaf_of_number}
 
@@ -159,9 +159,10 @@ named_in (entry ∷ later) names word head h =
     at false is name below k = below k
 
 pub head-name : (word : List ℕ) (head : Head) → head_of word ≡ Some head → is_name word ≡ true
-unfolding head_of variable_head is_name
-head-name word head h = at (found_in value_table word) refl h
+unfolding head_of variable_head matrix_head is_name
+head-name word head h = at (found_in value_table word) (found_in variable_table word) refl refl h
   where
-    at : (o : Option Head) → found_in value_table word ≡ o → option_or o (found_in variable_table word) ≡ Some head → is_name word ≡ true
-    at None is k = named_in variable_table refl word head k
-    at (Some x) is k = named_in value_table refl word x is
+    at : (o v : Option Head) → found_in value_table word ≡ o → found_in variable_table word ≡ v → option_or o (option_or v (found_in matrix_table word)) ≡ Some head → is_name word ≡ true
+    at None None is also k = named_in matrix_table refl word head k
+    at None (Some x) is also k = named_in variable_table refl word x also
+    at (Some x) v is also k = named_in value_table refl word x is

@@ -6,7 +6,9 @@ pub mod GrammarExamples
 pub mod ScriptExamples
 pub mod LoadExamples
 pub mod GeneratorExamples
+pub mod FormExamples
 pub mod VariableExamples
+pub mod MatrixExamples
 pub mod TestFacts
 pub mod ExpressionLaws
 pub mod FailureLaws

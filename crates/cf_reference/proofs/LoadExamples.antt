@@ -11,7 +11,7 @@ use Rattle.cf_circuits.specs.Causes.{first_fault}
 use Rattle.cf_circuits.specs.Netlists.{models_of}
 use Rattle.cf_circuits.specs.Expansions.{cval}
 use Rattle.cf_reference.specs.Words.{before_comment, behind_run, behind_word, words, pieces, natural, number, place, is_name, is_bits}
-use Rattle.cf_reference.specs.Heads.{head_of, variable_head}
+use Rattle.cf_reference.specs.Heads.{head_of, variable_head, matrix_head}
 use Rattle.cf_reference.specs.Trees.{Load}
 use Rattle.cf_reference.specs.Grammar.{keyword_of, leaf, atom_of}
 use Rattle.cf_reference.specs.LineRefusals.{Malformed, Good}
@@ -60,7 +60,7 @@ rows [] = []
 rows (line ∷ later) = line ++ 10 ∷ rows later
 
 abbrev text : Files → List (List ℕ) → List ℕ
-unfolding digits all_bits lines before_comment behind_run behind_word words pieces natural number place is_name is_bits head_of variable_head keyword_of leaf atom_of is_deep statement_at readers walk part subexpressions failure set_level declare define load_circuit tell_value tell_first tell_list tell_equal tell_size tell_stats carry run_lines physical without_comment continues blanked texts circuit_words kind_of_word formal_of actual_of first_fault models_of cval chains total
+unfolding digits all_bits lines before_comment behind_run behind_word words pieces natural number place is_name is_bits head_of variable_head matrix_head keyword_of leaf atom_of is_deep statement_at readers walk part subexpressions failure set_level declare define load_circuit tell_value tell_first tell_list tell_equal tell_size tell_stats carry run_lines physical without_comment continues blanked texts circuit_words kind_of_word formal_of actual_of first_fault models_of cval chains total
 text files script = (ref files (codes "run" ∷ []) (rows script)).text
 
 -- A circuit of an inverter; a cover line with another output than the first; an output that nothing drives; two copies of one

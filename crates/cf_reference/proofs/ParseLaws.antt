@@ -8,10 +8,10 @@ use Rattle.std.proofs.lemmas.Bool.{and_parts, and_from, or_cases, leb-true, leb-
 use Rattle.cf_reference.specs.declared.grammar.Keyword.{Keyword}
 use Rattle.cf_reference.specs.declared.grammar.Keyword.TheVariants as keyword
 use Rattle.cf_reference.specs.Words.{before_comment, behind_word, words_of_line, equals, pieces, natural, number, is_name, is_bits}
-use Rattle.cf_reference.specs.Trees.{Tree, Statement, Level, Vars, Let, Load, Value, First, Listed, Equal, Size, statement_fits}
+use Rattle.cf_reference.specs.Trees.{Tree, Statement, Level, Vars, Let, Load, Value, First, Listed, Entry, Equal, Size, statement_fits}
 use Rattle.cf_reference.specs.Grammar.{keyword_of, SpellsBehind, SpellsWords, Spells}
 use Rattle.cf_reference.specs.LineRefusals.{Parsed, TooDeep, WideNumber, Good, IsDeep, Parses}
-use Rattle.cf_reference.specs.Parsing.{TreeAt, readers, defined, listed, loaded_from, behind, keyed, statement_at, some_prefix, is_deep, judged, parse, LinesParse}
+use Rattle.cf_reference.specs.Parsing.{TreeAt, readers, defined, listed, entry_of, loaded_from, behind, keyed, statement_at, some_prefix, is_deep, judged, parse, LinesParse}
 use Rattle.cf_reference.proofs.GrammarLaws.{some_is}
 use Rattle.cf_reference.proofs.ParsedLaws.{parse_once}
 use Rattle.cf_reference.proofs.ParsingLaws.{whole-found, found-sound}
@@ -105,6 +105,22 @@ list_sound bytes (name ∷ v ∷ m ∷ []) t h = at (is_name name) refl h
     at false named k = cc
 list_sound bytes (name ∷ v ∷ m ∷ w ∷ all) t h = cc
 
+entry_is : (name : List ℕ) (r c : Option ℤ) (t : Statement) → entry_of name r c ≡ Some t → (row : ℤ) × (col : ℤ) × (r ≡ Some row) × (c ≡ Some col) × (t ≡ Entry name row col)
+entry_is name None c t h = cc
+entry_is name (Some row) None t h = cc
+entry_is name (Some row) (Some col) t h = (row, col, refl, refl, sym (some_is h))
+
+entry_sound : (bytes : List ℕ) (all : List (List ℕ)) (t : Statement) → behind keyword.Entry bytes all ≡ Some t → SpellsBehind keyword.Entry t bytes all
+entry_sound bytes [] t h = cc
+entry_sound bytes (name ∷ []) t h = cc
+entry_sound bytes (name ∷ r ∷ []) t h = cc
+entry_sound bytes (name ∷ r ∷ c ∷ []) t h = at (is_name name) refl h
+  where
+    at : (x : Bool) → is_name name ≡ x → cond x (entry_of name (natural r) (natural c)) None ≡ Some t → SpellsBehind keyword.Entry t bytes (name ∷ r ∷ c ∷ [])
+    at true named k = let l = entry_is name (natural r) (natural c) t k in (name, r, c, l.0, l.1, refl, named, l.2, l.3, l.4)
+    at false named k = cc
+entry_sound bytes (name ∷ r ∷ c ∷ w ∷ all) t h = cc
+
 equal_sound : (bytes : List ℕ) (all : List (List ℕ)) (t : Statement) → behind keyword.Equal bytes all ≡ Some t → SpellsBehind keyword.Equal t bytes all
 equal_sound bytes [] t h = cc
 equal_sound bytes (name ∷ []) t h = cc
@@ -131,6 +147,7 @@ behind_sound keyword.Load bytes all t h = load_sound bytes all t h
 behind_sound keyword.Value bytes all t h = value_sound bytes all t h
 behind_sound keyword.First bytes all t h = first_sound bytes all t h
 behind_sound keyword.List bytes all t h = list_sound bytes all t h
+behind_sound keyword.Entry bytes all t h = entry_sound bytes all t h
 behind_sound keyword.Equal bytes all t h = equal_sound bytes all t h
 behind_sound keyword.Size bytes all t h = size_sound bytes all t h
 behind_sound keyword.Stats bytes all t h = stats_sound bytes all t h
@@ -150,6 +167,8 @@ behind_found keyword.First bytes all t h =
     ap (behind keyword.First bytes) h.3 ∙ ap (λ b. cond b (option_map (First h.0) (number h.1)) None) h.4 ∙ ap (option_map (First h.0)) h.5 ∙ ap Some (sym h.6)
 behind_found keyword.List bytes all t h =
     ap (behind keyword.List bytes) h.5 ∙ ap (λ b. cond b (listed h.0 (number h.1) (natural h.2)) None) h.6 ∙ ap (λ o. listed h.0 o (natural h.2)) h.7 ∙ ap (listed h.0 (Some h.3)) h.8 ∙ ap Some (sym h.9)
+behind_found keyword.Entry bytes all t h =
+    ap (behind keyword.Entry bytes) h.5 ∙ ap (λ b. cond b (entry_of h.0 (natural h.1) (natural h.2)) None) h.6 ∙ ap (λ o. entry_of h.0 o (natural h.2)) h.7 ∙ ap (entry_of h.0 (Some h.3)) h.8 ∙ ap Some (sym h.9)
 behind_found keyword.Equal bytes all t h = ap (behind keyword.Equal bytes) h.2 ∙ chosen (is_name h.0 && is_name h.1) (Equal h.0 h.1) (and_from (is_name h.0) (is_name h.1) h.3 h.4) ∙ ap Some (sym h.5)
 behind_found keyword.Size bytes all t h = ap (behind keyword.Size bytes) h.1 ∙ chosen (is_name h.0) (Size h.0) h.2 ∙ ap Some (sym h.3)
 behind_found keyword.Stats bytes all t h = ap (behind keyword.Stats bytes) h.0 ∙ ap Some (sym h.1)

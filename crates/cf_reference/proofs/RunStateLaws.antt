@@ -1,12 +1,13 @@
 -- Lines lead to states of which this holds.
-use Rattle.std.proofs.Common.{ℕ, ◌≡◌, ◌+◌, Bool, true, false, cond, List, [], ◌∷◌, refl, sym, subst}
+use Rattle.std.proofs.Common.{ℕ, ◌≡◌, ◌+◌, Bool, true, false, List, [], ◌∷◌, Option, Some, None, refl, sym, subst}
 use Rattle.cf_reference.specs.Lines.{Line, Fit, Fits, LineTooLong, ScriptTooLong, fit, size, lines}
 use Rattle.cf_reference.specs.LineRefusals.{Parsed, TooDeep, Malformed, WideNumber, Good, Parses}
 use Rattle.cf_reference.specs.Parsing.{parse}
-use Rattle.cf_reference.specs.Replies.{usage_reply}
 use Rattle.cf_reference.specs.States.{State, Files, IsState, initial}
 use Rattle.cf_reference.specs.Carrying.{Outcome, Refuses, Goes, step}
-use Rattle.cf_reference.specs.Scripts.{step_parsed, carry_fitting, carry, state_of, refuses, Usage, Ending, run_lines, is_run, RunsEndInStates}
+use Rattle.cf_reference.specs.Scripts.{step_parsed, carry_fitting, carry, state_of, refuses, Ending, run_lines, ref_form, RunsEndInStates}
+use Rattle.cf_reference.specs.Forms.{Form, Run, Generated, form_of}
+use Rattle.cf_reference.specs.Generator.{gen_script}
 use Rattle.cf_reference.proofs.ParseLaws.{lines_parse}
 use Rattle.cf_reference.proofs.ScriptLaws.{run_lines-nil, run_lines-goes, run_lines-refused}
 use Rattle.cf_reference.proofs.StateLaws.{initial-holds, step-holds}
@@ -44,10 +45,13 @@ run_holds files s n before (line ∷ later) h =
     by false r more =
         subst (λ (end : Ending). IsState end.state) (sym (run_lines-goes files s n before line later (carry files s before line) refl r)) more
 
+form_holds : (files : Files) (form : Option Form) (source : List ℕ)
+    → IsState (ref_form files form source).state
+form_holds files None source = initial-holds
+form_holds files (Some Run) source =
+    run_holds files initial 1 0 (lines source) initial-holds
+form_holds files (Some (Generated seed)) source =
+    run_holds files initial 1 0 (lines (gen_script seed)) initial-holds
+
 pub runs_end_in_states : RunsEndInStates
-runs_end_in_states files said script = by (is_run said)
-  where
-    by : (b : Bool)
-        → IsState (cond b (run_lines files initial 1 0 (lines script)) (record { text = usage_reply; close = Usage; state = initial; read = 0 })).state
-    by true = run_holds files initial 1 0 (lines script) initial-holds
-    by false = initial-holds
+runs_end_in_states files said source = form_holds files (form_of said) source

@@ -7,7 +7,7 @@ use Rattle.cf_model.specs.Patterns.{cut_into, sub}
 use Rattle.cf_model.specs.declared.terms.Word2.TheVariants.{And}
 use Rattle.cf_reference.specs.Words.{before_comment, words, natural, number, place, is_name, is_bits}
 use Rattle.cf_reference.specs.declared.grammar.Head.TheVariants.{Const, Fold}
-use Rattle.cf_reference.specs.Heads.{head_of, variable_head}
+use Rattle.cf_reference.specs.Heads.{head_of, variable_head, matrix_head}
 use Rattle.cf_reference.specs.Trees.{Level, Let, At, Named, Call, none, more}
 use Rattle.cf_reference.specs.Grammar.{keyword_of, leaf, atom_of}
 use Rattle.cf_reference.specs.LineRefusals.{Malformed, Good}
@@ -16,7 +16,7 @@ use Rattle.cf_reference.specs.Calls.{Number, call_refusal}
 use Rattle.cf_reference.specs.Expressions.{part, walk}
 use Rattle.cf_reference.specs.Failures.{subexpressions, failure}
 use Rattle.cf_reference.specs.States.{initial}
-use Rattle.cf_reference.specs.Carrying.{set_level, declare, define, tell_value, tell_first, tell_list, tell_equal, tell_size, tell_stats}
+use Rattle.cf_reference.specs.Carrying.{set_level, declare, define, tell_value, tell_first, tell_list, tell_entry, tell_equal, tell_size, tell_stats}
 use Rattle.cf_reference.specs.Scripts.{text_of, Done, Refused, Usage, carry, run_lines, ref}
 use Rattle.cf_reference.specs.Lines.{lines}
 
@@ -26,7 +26,7 @@ script [] = []
 script (line ∷ later) = line ++ 10 ∷ script later
 
 unfoldable pub text : List (List ℕ) → List ℕ
-unfolding digits all_bits lines before_comment words natural number place is_name is_bits head_of variable_head keyword_of leaf atom_of is_deep statement_at readers walk part subexpressions failure set_level declare define tell_value tell_first tell_list tell_equal tell_size tell_stats carry run_lines
+unfolding digits all_bits lines before_comment words natural number place is_name is_bits head_of variable_head matrix_head keyword_of leaf atom_of is_deep statement_at readers walk part subexpressions failure set_level declare define tell_value tell_first tell_list tell_entry tell_equal tell_size tell_stats carry run_lines
 text rows = (ref [] (codes "run" ∷ []) (script rows)).text
 
 level_line : parse (codes "level 1") ≡ Good (Level (pos 1))
@@ -34,11 +34,11 @@ unfolding before_comment words keyword_of natural is_deep statement_at
 level_line = refl
 
 no_second_argument : parse (codes "let f = and(@0)") ≡ Malformed
-unfolding before_comment words keyword_of head_of variable_head leaf atom_of number place natural is_name is_deep statement_at readers
+unfolding before_comment words keyword_of head_of variable_head matrix_head leaf atom_of number place natural is_name is_deep statement_at readers
 no_second_argument = refl
 
 call_line : parse (codes "let f = and(a, @1)") ≡ Good (Let (codes "f") (Call (Fold And) (more (Named (codes "a")) (more (At (pos 1)) none))))
-unfolding before_comment words keyword_of head_of variable_head leaf atom_of number place natural is_name is_deep statement_at readers
+unfolding before_comment words keyword_of head_of variable_head matrix_head leaf atom_of number place natural is_name is_deep statement_at readers
 call_line = refl
 
 value_of_a_variable : text (codes "level 1" ∷ codes "let f = @0" ∷ codes "value f 10" ∷ []) ≡ codes "1" ++ 10 ∷ []

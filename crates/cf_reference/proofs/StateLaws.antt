@@ -1,6 +1,6 @@
 -- What holds of each state that a run reaches.
 use Rattle.std.proofs.Common.{ℕ, ℤ, suc, ◌≡◌, ◌≤◌, ◌<◌, ◌+◌, ◌^◌, pos, Bool, length-append, true, false, cond, List, [], ◌∷◌, ◌++◌, length, Option, Some, None, refl, ap, sym, subst, ◌∙◌, arith}
-use Rattle.std.specs.Prelude.{All, unwrap_or, int_le, int_lt, nat_abs, nat_lt, nat_le, ◌||◌, is_some, is_none, not, negsuc, ◌==◌}
+use Rattle.std.specs.Prelude.{All, unwrap_or, ◌&&◌, int_le, int_lt, nat_abs, nat_lt, nat_le, ◌||◌, is_some, is_none, not, negsuc, ◌==◌}
 use Rattle.std.specs.Option.{option_or, option_map}
 use Rattle.std.specs.Str.{bytes_eq}
 use Rattle.std.proofs.lemmas.Bool.{false≢true}
@@ -13,8 +13,8 @@ use Rattle.cf_model.specs.Terms.{truth}
 use Rattle.cf_model.specs.FlatFunctions.{FlatFunction, IsFlatFunction, value_at, variable, tabulated}
 use Rattle.cf_model.proofs.FlatFunctionLaws.{fits_decides, tabulated-full}
 use Rattle.cf_model.proofs.TermLaws.{fitting-some}
-use Rattle.cf_reference.specs.Trees.{Tree, Num, At, Named, Call, tree_fits, Statement, Empty, Level, Vars, Let, Load, Value, First, Listed, Equal, Size, Stats, statement_fits}
-use Rattle.cf_reference.specs.Reasons.{Refusal, NoLevel, LevelAgain, NoName, Taken, TooManyVariables, LevelsDiffer, BadLevel, Overflow, FileTooLarge, Circuit, Links, where_holds}
+use Rattle.cf_reference.specs.Trees.{Tree, Num, At, Named, Call, tree_fits, Statement, Empty, Level, Vars, Let, Load, Value, First, Listed, Entry, Equal, Size, Stats, statement_fits}
+use Rattle.cf_reference.specs.Reasons.{Refusal, NoLevel, LevelAgain, NoName, Taken, TooManyVariables, LevelsDiffer, BadLevel, OutOfRange, Overflow, FileTooLarge, Circuit, Links, where_holds}
 use Rattle.cf_reference.specs.States.{State, Files, IsState, content_of, initial, level_in, is_below, is_among, position_of, function_named, bind, named, is_bound, nothing}
 use Rattle.cf_circuits.specs.declared.models.ModelDef.{ModelDef}
 use Rattle.cf_circuits.specs.Causes.{fault}
@@ -24,10 +24,11 @@ use Rattle.cf_circuits.specs.Netlists.{net}
 use Rattle.cf_circuits.specs.Roots.{inputs_of, outputs_of}
 use Rattle.cf_reference.specs.Loading.{file_limit, with_input, with_inputs, input_refusal, inputs_refusal, output_name, outputs_clash, with_outputs, input_bits, output_function, declared_for, with_circuit}
 use Rattle.cf_reference.specs.Answers.{equal_answer}
-use Rattle.cf_reference.specs.Calls.{exact, call_refusal}
+use Rattle.cf_reference.specs.Replies.{value_reply}
+use Rattle.cf_reference.specs.Calls.{exact, call_refusal, is_index}
 use Rattle.cf_reference.specs.Expressions.{part, meant, level, walk, walks, value}
 use Rattle.cf_reference.specs.Failures.{over}
-use Rattle.cf_reference.specs.Carrying.{Outcome, Goes, unless_refused, needs_level, with_function, with_content, load_bytes, load_circuit, asks, clashes, have_room, function_from, set_level, declare, define, tell_value, tell_first, tell_list, tell_equal, tell_size, tell_stats, step}
+use Rattle.cf_reference.specs.Carrying.{Outcome, Goes, unless_refused, needs_level, with_function, with_content, load_bytes, load_circuit, asks, clashes, have_room, function_from, set_level, declare, define, tell_value, tell_first, tell_list, tell_entry, entry_in, tell_equal, tell_size, tell_stats, step}
 use Rattle.cf_reference.specs.Scripts.{state_of, refuses}
 use Rattle.cf_reference.proofs.FitLaws.{truth_fits}
 use Rattle.cf_reference.proofs.NameLaws.{or_first, or_second, differ-vars, differ-let}
@@ -164,6 +165,9 @@ keeps_here s text u reply e = ap (state_of s) e
 keeps_unless : (s : State) (first : Option Refusal) (later : List (Option Refusal)) (outcome : Outcome)
     → Keeps s (unless_refused later outcome) → Keeps s (unless_refused (first ∷ later) outcome)
 keeps_unless s first later outcome h u reply e = h u reply (unless_refused-passes first later outcome u reply e).1
+
+keeps_two : (s : State) (first second : Option Refusal) (text : List ℕ) → Keeps s (unless_refused (first ∷ second ∷ []) (Goes s text))
+keeps_two s first second text = keeps_unless s first (second ∷ []) (Goes s text) (keeps_unless s second [] (Goes s text) (keeps_here s text))
 
 keeps_function : (s : State) (found : Option FlatFunction) (answer : FlatFunction → Outcome)
     → ((f : FlatFunction) → Keeps s (answer f)) → Keeps s (with_function found answer)
@@ -324,7 +328,7 @@ load_holds files s u prefix file reply h e =
 -- A statement that isn't refused leads to such a state again.
 pub step-holds : (files : Files) (s u : State) (t : Statement) (reply : List ℕ) → IsState s → statement_fits t ≡ true
     → step files s t ≡ Goes u reply → IsState u
-unfolding tell_value tell_first tell_list tell_equal tell_size tell_stats
+unfolding tell_value tell_first tell_list tell_entry tell_equal tell_size tell_stats
 step-holds files s u Empty reply h fit e = subst (λ (v : State). IsState v) (keeps_here s [] u reply e) h
 step-holds files s u (Level n) reply h fit e = set_holds s u n reply h e
 step-holds files s u (Vars names) reply h fit e = declare_holds s u names reply h e
@@ -336,6 +340,11 @@ step-holds files s u (First name n) reply h fit e =
     subst (λ (v : State). IsState v) (keeps_asked s name _ (λ f. keeps_here s _) u reply e) h
 step-holds files s u (Listed name n most) reply h fit e =
     subst (λ (v : State). IsState v) (keeps_asked s name _ (λ f. keeps_unless s _ [] _ (keeps_here s _)) u reply e) h
+step-holds files s u (Entry name row col) reply h fit e =
+    subst (λ (v : State). IsState v)
+    (keeps_asked s name _
+    (λ f. keeps_two s (where_holds (f.level == 0) BadLevel) (where_holds (not (is_index f.level row && is_index f.level col)) OutOfRange) (value_reply (entry_in f (nat_abs row) (nat_abs col))))
+    u reply e) h
 step-holds files s u (Equal name other) reply h fit e =
     subst (λ (v : State). IsState v) (keeps_asked s name _ (λ f. keeps_function s (named s other) _ (λ g. keeps_unless s (where_holds (not (f.level == g.level)) LevelsDiffer) [] (Goes s (equal_answer f g)) (keeps_here s (equal_answer f g)))) u reply e) h
 step-holds files s u (Size name) reply h fit e =

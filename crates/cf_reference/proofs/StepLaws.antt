@@ -1,19 +1,20 @@
 -- What each statement does, and when it is refused.
 use Rattle.std.proofs.Common.{ℕ, ℤ, ◌≡◌, ◌≢◌, ◌^◌, Bool, true, false, List, [], ◌∷◌, ◌++◌, length, Option, Some, None, refl, ap, sym, ◌∙◌, arith, ◌⊎◌, inl, inr}
-use Rattle.std.specs.Prelude.{is_some, is_none, ◌==◌, nat_abs, not}
+use Rattle.std.specs.Prelude.{is_some, is_none, ◌==◌, ◌&&◌, nat_abs, not}
 use Rattle.std.specs.Option.{option_map, option_or}
 use Rattle.std.proofs.lemmas.Option.{same_Some, none-some}
 use Rattle.std.proofs.lemmas.Bool.Decides.{nat_tests}
 use Rattle.cf_model.specs.FlatFunctions.{FlatFunction}
-use Rattle.cf_reference.specs.Trees.{Tree, Statement, Empty, Level, Vars, Let, Load, Value, First, Listed, Equal, Size, Stats}
+use Rattle.cf_reference.specs.Trees.{Tree, Statement, Empty, Level, Vars, Let, Load, Value, First, Listed, Entry, Equal, Size, Stats}
 use Rattle.cf_reference.specs.Reasons.{Refusal, NoLevel, LevelAgain, NoName, Taken, TooManyVariables, LevelsDiffer, BadLevel, OutOfRange, Overflow, where_holds}
 use Rattle.cf_reference.specs.Replies.{value_reply}
 use Rattle.cf_reference.specs.States.{State, Files, is_below, is_among, bind, named, at}
+use Rattle.cf_reference.specs.Calls.{is_index}
 use Rattle.cf_reference.specs.Expressions.{walk}
 use Rattle.cf_reference.specs.Failures.{over}
 use Rattle.cf_reference.specs.Gives.{GivesTree}
 use Rattle.cf_reference.specs.Answers.{spelled, first_answer, list_answer, equal_answer, size_answer, stats_answer}
-use Rattle.cf_reference.specs.Carrying.{Outcome, Refuses, Goes, unless_refused, needs_level, with_function, asks, clashes, have_room, lists, function_from, set_level, declare, define, load_circuit, tell_value, tell_first, tell_list, tell_equal, tell_size, tell_stats, step}
+use Rattle.cf_reference.specs.Carrying.{Outcome, Refuses, Goes, unless_refused, needs_level, with_function, asks, clashes, have_room, lists, function_from, set_level, declare, define, load_circuit, tell_value, tell_first, tell_list, tell_entry, entry_in, tell_equal, tell_size, tell_stats, step}
 use Rattle.cf_reference.proofs.TestFacts.{or_none_first, or_none_second}
 use Rattle.cf_reference.proofs.GivesLaws.{gives-let}
 
@@ -38,7 +39,7 @@ WantsLevel other = Unit {0}
 -- where no level is set, only these two are carried out
 pub step-without : (files : Files) (s : State) (t : Statement) → s.level ≡ None → WantsLevel t
     → step files s t ≡ Refuses NoLevel
-unfolding declare define load_circuit tell_value tell_first tell_list tell_equal tell_size tell_stats
+unfolding declare define load_circuit tell_value tell_first tell_list tell_entry tell_equal tell_size tell_stats
 step-without files s Empty none h = absurd h
 step-without files s (Level n) none h = absurd h
 step-without files s (Vars names) none h = without s _ _ none
@@ -47,6 +48,7 @@ step-without files s (Load prefix file) none h = without s [] _ none
 step-without files s (Value name bits) none h = without_asked s name _ none
 step-without files s (First name n) none h = without_asked s name _ none
 step-without files s (Listed name n most) none h = without_asked s name _ none
+step-without files s (Entry name row col) none h = without_asked s name _ none
 step-without files s (Equal name other) none h = without_asked s name _ none
 step-without files s (Size name) none h = without_asked s name _ none
 step-without files s Stats none h = without s [] (Goes s (stats_answer s)) none
@@ -205,15 +207,17 @@ abbrev pub Asks : Statement → List ℕ → Type 0
 Asks (Value n bits) name = n ≡ name
 Asks (First n v) name = n ≡ name
 Asks (Listed n v most) name = n ≡ name
+Asks (Entry n row col) name = n ≡ name
 Asks (Size n) name = n ≡ name
 Asks other name = ⊥
 
 pub step-NoName : (files : Files) (s : State) (k : ℕ) (t : Statement) (name : List ℕ) → s.level ≡ Some k → Asks t name
     → named s name ≡ None → step files s t ≡ Refuses NoName
-unfolding tell_value tell_first tell_list tell_size
+unfolding tell_value tell_first tell_list tell_entry tell_size
 step-NoName files s k (Value n bits) name l same e = unknown s k n _ l (ap (named s) same ∙ e)
 step-NoName files s k (First n v) name l same e = unknown s k n _ l (ap (named s) same ∙ e)
 step-NoName files s k (Listed n v most) name l same e = unknown s k n _ l (ap (named s) same ∙ e)
+step-NoName files s k (Entry n row col) name l same e = unknown s k n _ l (ap (named s) same ∙ e)
 step-NoName files s k (Size n) name l same e = unknown s k n _ l (ap (named s) same ∙ e)
 step-NoName files s k Empty name l same e = absurd same
 step-NoName files s k (Level n) name l same e = absurd same
@@ -271,6 +275,35 @@ pub step-Listed-most : (s : State) (k : ℕ) (name : List ℕ) (v most : ℤ) (f
 unfolding only_where tell_list
 step-Listed-most s k name v most f l e past =
     known s k name f _ l e ∙ ap (λ b. only_where b OutOfRange (Goes s (list_answer f v (nat_abs most)))) past
+
+-- `entry`
+entry_where : Bool → Bool → Outcome → Outcome
+entry_where low inside outcome = unless_refused (where_holds low BadLevel ∷ where_holds (not inside) OutOfRange ∷ []) outcome
+
+pub step-Entry : (s : State) (k : ℕ) (name : List ℕ) (row col : ℤ) (f : FlatFunction) → s.level ≡ Some k → named s name ≡ Some f
+    → f.level ≢ 0 → (is_index f.level row && is_index f.level col) ≡ true
+    → tell_entry s name row col ≡ Goes s (value_reply (entry_in f (nat_abs row) (nat_abs col)))
+unfolding entry_where tell_entry
+step-Entry s k name row col f l e high inside =
+    known s k name f _ l e
+    ∙ ap (λ b. entry_where b (is_index f.level row && is_index f.level col) (Goes s (value_reply (entry_in f (nat_abs row) (nat_abs col))))) (differ f.level 0 high)
+    ∙ ap (λ b. entry_where false b (Goes s (value_reply (entry_in f (nat_abs row) (nat_abs col))))) inside
+
+pub step-Entry-level : (s : State) (k : ℕ) (name : List ℕ) (row col : ℤ) (f : FlatFunction) → s.level ≡ Some k
+    → named s name ≡ Some f → f.level ≡ 0 → tell_entry s name row col ≡ Refuses BadLevel
+unfolding entry_where tell_entry
+step-Entry-level s k name row col f l e low =
+    known s k name f _ l e
+    ∙ ap (λ b. entry_where b (is_index f.level row && is_index f.level col) (Goes s (value_reply (entry_in f (nat_abs row) (nat_abs col))))) (equals f.level 0 low)
+
+pub step-Entry-outside : (s : State) (k : ℕ) (name : List ℕ) (row col : ℤ) (f : FlatFunction) → s.level ≡ Some k
+    → named s name ≡ Some f → f.level ≢ 0 → (is_index f.level row && is_index f.level col) ≡ false
+    → tell_entry s name row col ≡ Refuses OutOfRange
+unfolding entry_where tell_entry
+step-Entry-outside s k name row col f l e high outside =
+    known s k name f _ l e
+    ∙ ap (λ b. entry_where b (is_index f.level row && is_index f.level col) (Goes s (value_reply (entry_in f (nat_abs row) (nat_abs col))))) (differ f.level 0 high)
+    ∙ ap (λ b. entry_where false b (Goes s (value_reply (entry_in f (nat_abs row) (nat_abs col))))) outside
 
 -- `equal`
 abbrev compared : State → FlatFunction → FlatFunction → Outcome

@@ -7,10 +7,10 @@ use Rattle.cf_reference.specs.declared.grammar.Head.{Head}
 use Rattle.cf_reference.specs.Trees.{Tree, Call, Arguments, more, atom, Atom}
 use Rattle.cf_reference.specs.Reasons.{Refusal, LevelsDiffer, BadLevel, OutOfRange, unless}
 use Rattle.cf_reference.specs.States.{State, is_below}
-use Rattle.cf_reference.specs.Calls.{Meant, levels, positions, common, are_equal, exact, call_refusal}
+use Rattle.cf_reference.specs.Calls.{Meant, levels, positions, common, are_equal, exact, least, has_level, own_rule, call_refusal}
 use Rattle.cf_reference.specs.Expressions.{meant, walk, walks, walk_atom}
 use Rattle.cf_reference.proofs.ExpressionLaws.{walk-Call, walks-more, walks-atom}
-use Rattle.cf_reference.proofs.TestFacts.{or_none_first, or_none_second, unless_none, le_is}
+use Rattle.cf_reference.proofs.TestFacts.{or_none_first, or_none_second, unless_none, left, right, le_is}
 
 -- of arguments that aren't refused
 pub walks-first : (s : State) (e : Tree) (es : Arguments) → walks s (more e es) ≡ None → walk s e ≡ None
@@ -47,20 +47,27 @@ walk-Call-refused s head es r h = walk-Call s head es ∙ ap (λ o. option_or o 
 pub record Ruled (head : Head) (args : List Meant) : Type 0 where
   pub equal : are_equal (levels args) ≡ true
   pub inside : list_all (λ i. is_below i (2 ^ common (levels args))) (positions args) ≡ true
+  pub high : least head ≤ (exact head args).level
   pub low : (exact head args).level ≤ 7
+  pub own : own_rule head args ≡ None
 
 pub ruled : (head : Head) (args : List Meant) → call_refusal head args ≡ None → Ruled head args
 ruled head args h =
     let l = (exact head args).level in
     let equal = are_equal (levels args) in
     let inside = list_all (λ i. is_below i (2 ^ common (levels args))) (positions args) in
-    let ranged = unless (nat_le l 7) BadLevel in
-    let placed = option_or (unless inside OutOfRange) ranged in
+    let ranged = has_level head l in
+    let last = option_or (unless ranged BadLevel) (own_rule head args) in
+    let placed = option_or (unless inside OutOfRange) last in
     let second = or_none_second (unless equal LevelsDiffer) placed h in
+    let third = or_none_second (unless inside OutOfRange) last second in
+    let levelled = unless_none ranged BadLevel (or_none_first (unless ranged BadLevel) (own_rule head args) third) in
     record {
       equal = unless_none equal LevelsDiffer (or_none_first (unless equal LevelsDiffer) placed h);
-      inside = unless_none inside OutOfRange (or_none_first (unless inside OutOfRange) ranged second);
-      low = le_is l 7 (unless_none (nat_le l 7) BadLevel (or_none_second (unless inside OutOfRange) ranged second));
+      inside = unless_none inside OutOfRange (or_none_first (unless inside OutOfRange) last second);
+      high = le_is (least head) l (left (nat_le (least head) l) (nat_le l 7) levelled);
+      low = le_is l 7 (right (nat_le (least head) l) (nat_le l 7) levelled);
+      own = or_none_second (unless ranged BadLevel) (own_rule head args) third;
     }
 
 pub refusal-low : (head : Head) (args : List Meant) → call_refusal head args ≡ None → (exact head args).level ≤ 7

@@ -1,4 +1,4 @@
-use Rattle.std.specs.Prelude.{ℕ, ℤ, pos, ◌^◌, ◌==◌, nat_le, nat_abs, Bool, true, false, List, [], ◌∷◌, map, Option, Some, None, unwrap_or, if◌then◌else◌}
+use Rattle.std.specs.Prelude.{ℕ, ℤ, pos, ◌+◌, ◌-◌, ◌^◌, ◌==◌, ◌&&◌, nat_le, nat_abs, Bool, true, false, List, [], ◌∷◌, map, Option, Some, None, unwrap_or, if◌then◌else◌}
 use Rattle.std.specs.List.{list_all}
 use Rattle.std.specs.Option.{option_or}
 use Rattle.cf_model.specs.Values.{fitting, and_then}
@@ -6,9 +6,10 @@ use Rattle.cf_model.specs.Terms.{value1, folded_on, is_true}
 use Rattle.cf_model.specs.FlatFunctions.{FlatFunction, tabulated}
 use Rattle.cf_model.specs.Pointwise.{restricted}
 use Rattle.cf_model.specs.Quantified.{over_all, some_setting, every_setting, both, composed}
+use Rattle.cf_model.specs.Matrices.{kronecker, product, transpose, identity, walsh, unit}
 use Rattle.cf_model.specs.declared.terms.Word2.TheVariants.{Plus}
 use Rattle.cf_reference.specs.declared.grammar.Head.{Head}
-use Rattle.cf_reference.specs.declared.grammar.Head.TheVariants.{Const, One, Fold, Ite, Restrict, Exists, Forall, SumOut, Compose, AndExists}
+use Rattle.cf_reference.specs.declared.grammar.Head.TheVariants.{Const, One, Fold, Ite, Restrict, Exists, Forall, SumOut, Compose, AndExists, Kron, Matmul, Transpose, Id, Walsh, Unit}
 use Rattle.cf_reference.specs.Reasons.{Refusal, LevelsDiffer, BadLevel, OutOfRange, unless}
 use Rattle.cf_reference.specs.States.{is_below, at}
 
@@ -75,6 +76,13 @@ exact Compose (Function f ∷ Position i ∷ Function g ∷ []) =
     of_level f.level (λ bits. Some (composed (at f) (nat_abs i) (at g) bits))
 exact AndExists (Function f ∷ Function g ∷ vars) =
     of_level f.level (λ bits. Some (some_setting (both (at f) (at g)) (places vars) bits))
+exact Kron (Function f ∷ Function g ∷ []) = of_level (f.level + 1) (kronecker (at f) (at g))
+exact Matmul (Function f ∷ Function g ∷ []) = of_level f.level (product (2 ^ (f.level - 1)) (at f) (at g))
+exact Transpose (Function f ∷ []) = of_level f.level (λ bits. Some (transpose (at f) bits))
+exact Id (Number j ∷ []) = of_level (nat_abs j) (λ bits. Some (identity bits))
+exact Walsh (Number j ∷ []) = of_level (nat_abs j) (λ bits. Some (walsh bits))
+exact Unit (Number j ∷ Number r ∷ Number c ∷ []) =
+    of_level (nat_abs j) (λ bits. Some (unit (nat_abs r) (nat_abs c) bits))
 exact head others = nothing
 
 -- a call: it has its exact value where that fits
@@ -97,12 +105,37 @@ abbrev pub are_equal : List ℕ → Bool
 are_equal [] = true
 are_equal (level ∷ levels) = list_all (λ other. other == level) levels
 
+-- the least level of a call: a matrix has level 1 or higher
+abbrev pub least : Head → ℕ
+least Matmul = 1
+least Transpose = 1
+least Id = 1
+least Walsh = 1
+least Unit = 1
+least other = 0
+
+-- whether a call may have a level
+abbrev pub has_level : Head → ℕ → Bool
+has_level head level = nat_le (least head) level && nat_le level 7
+
+-- whether a row or a column of this number is in the matrices of a level, which have 2^(2^(level-1)) of each
+abbrev pub is_index : ℕ → ℤ → Bool
+is_index level i = is_below i (2 ^ (2 ^ (level - 1)))
+
+-- the rule that a head has for itself
+abbrev pub own_rule : Head → List Meant → Option Refusal
+own_rule Unit (Number j ∷ Number r ∷ Number c ∷ []) =
+    unless (is_index (nat_abs j) r && is_index (nat_abs j) c) OutOfRange
+own_rule head others = None
+
 -- The rules of a call in their order: its functions are of one level, the positions are below that level's number of
--- variables, and the call's level is at most 7.
+-- variables, the call's level is one that it may have, and the head's own rule holds.
 abbrev pub call_refusal : Head → List Meant → Option Refusal
 call_refusal head args =
     option_or
     (unless (are_equal (levels args)) LevelsDiffer)
     (option_or
     (unless (list_all (λ i. is_below i (2 ^ common (levels args))) (positions args)) OutOfRange)
-    (unless (nat_le (exact head args).level 7) BadLevel))
+    (option_or
+    (unless (has_level head (exact head args).level) BadLevel)
+    (own_rule head args)))

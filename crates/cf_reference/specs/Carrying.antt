@@ -1,16 +1,18 @@
-use Rattle.std.specs.Prelude.{ℕ, ℤ, pos, ◌+◌, ◌^◌, ◌==◌, ◌&&◌, ◌||◌, nat_lt, nat_le, int_le, nat_abs, not, is_none, is_some, Bool, List, [], ◌∷◌, ◌++◌, length, Option, Some, None}
+use Rattle.std.specs.Prelude.{ℕ, ℤ, pos, ◌+◌, ◌-◌, ◌^◌, ◌==◌, ◌&&◌, ◌||◌, nat_lt, nat_le, int_le, nat_abs, not, is_none, is_some, Bool, List, [], ◌∷◌, ◌++◌, length, Option, Some, None}
 use Rattle.std.specs.List.{list_any}
 use Rattle.std.specs.Option.{option_map}
+use Rattle.cf_model.specs.Assignments.{bits_of}
 use Rattle.cf_model.specs.FlatFunctions.{FlatFunction}
+use Rattle.cf_model.specs.Matrices.{entry}
 use Rattle.cf_circuits.specs.Causes.{fault}
 use Rattle.cf_circuits.specs.LinkFaults.{link}
 use Rattle.cf_circuits.specs.Netlists.{net}
 use Rattle.cf_circuits.specs.Roots.{inputs_of, outputs_of}
-use Rattle.cf_reference.specs.Trees.{Tree, Statement, Empty, Level, Vars, Let, Load, Value, First, Listed, Equal, Size, Stats}
+use Rattle.cf_reference.specs.Trees.{Tree, Statement, Empty, Level, Vars, Let, Load, Value, First, Listed, Entry, Equal, Size, Stats}
 use Rattle.cf_reference.specs.Reasons.{Refusal, NoLevel, LevelAgain, NoName, Taken, TooManyVariables, LevelsDiffer, BadLevel, OutOfRange, Overflow, NoFile, FileTooLarge, Circuit, Links, where_holds}
 use Rattle.cf_reference.specs.Replies.{value_reply}
 use Rattle.cf_reference.specs.States.{State, Files, content_of, level_in, is_below, is_among, bind, named, is_bound, repeats, at}
-use Rattle.cf_reference.specs.Calls.{flat}
+use Rattle.cf_reference.specs.Calls.{flat, is_index}
 use Rattle.cf_reference.specs.Expressions.{part, walk}
 use Rattle.cf_reference.specs.Failures.{over}
 use Rattle.cf_reference.specs.Loading.{file_limit, inputs_refusal, outputs_clash, declared_for, with_circuit}
@@ -112,6 +114,17 @@ unfoldable pub tell_list : State → List ℕ → ℤ → ℤ → Outcome
 tell_list s name n most =
     asks s name (λ f. unless_refused (where_holds (not (lists most)) OutOfRange ∷ []) (Goes s (list_answer f n (nat_abs most))))
 
+-- the entry of a matrix in a row and a column
+abbrev pub entry_in : FlatFunction → ℕ → ℕ → ℤ
+entry_in f row col = entry (at f) (bits_of (2 ^ (f.level - 1)) row) (bits_of (2 ^ (f.level - 1)) col)
+
+-- A function of level 0 is no matrix.
+unfoldable pub tell_entry : State → List ℕ → ℤ → ℤ → Outcome
+tell_entry s name row col =
+    asks s name (λ f. unless_refused
+    (where_holds (f.level == 0) BadLevel ∷ where_holds (not (is_index f.level row && is_index f.level col)) OutOfRange ∷ [])
+    (Goes s (value_reply (entry_in f (nat_abs row) (nat_abs col)))))
+
 unfoldable pub tell_equal : State → List ℕ → List ℕ → Outcome
 tell_equal s name other =
     asks s name (λ f. with_function (named s other) (λ g. unless_refused
@@ -134,6 +147,7 @@ step files s (Load prefix file) = load_circuit files s prefix file
 step files s (Value name bits) = tell_value s name bits
 step files s (First name n) = tell_first s name n
 step files s (Listed name n most) = tell_list s name n most
+step files s (Entry name row col) = tell_entry s name row col
 step files s (Equal name other) = tell_equal s name other
 step files s (Size name) = tell_size s name
 step files s Stats = tell_stats s

@@ -7,7 +7,7 @@ use Rattle.cf_reference.specs.declared.grammar.Keyword.TheVariants as keyword
 use Rattle.cf_reference.specs.declared.grammar.Head.{Head}
 use Rattle.cf_reference.specs.Heads.{Kind, AnExpression, AVariable, ANatural, ANumber, ABit, head_of, takes, kind_at}
 use Rattle.cf_reference.specs.Words.{before_comment, behind_word, words_of_line, open_sign, close_sign, comma, equals, pieces, natural, number, place, is_name, is_bits}
-use Rattle.cf_reference.specs.Trees.{Atom, Variable, Position, Number, Tree, Num, At, Named, Call, Arguments, none, more, atom, count, Statement, Empty, Level, Vars, Let, Load, Value, First, Listed, Equal, Size, Stats}
+use Rattle.cf_reference.specs.Trees.{Atom, Variable, Position, Number, Tree, Num, At, Named, Call, Arguments, none, more, atom, count, Statement, Empty, Level, Vars, Let, Load, Value, First, Listed, Entry, Equal, Size, Stats}
 
 -- The grammar of a line, over its words.
 
@@ -21,6 +21,7 @@ keyword_of word =
     else if bytes_eq word (codes "value") then Some keyword.Value
     else if bytes_eq word (codes "first") then Some keyword.First
     else if bytes_eq word (codes "list") then Some keyword.List
+    else if bytes_eq word (codes "entry") then Some keyword.Entry
     else if bytes_eq word (codes "equal") then Some keyword.Equal
     else if bytes_eq word (codes "size") then Some keyword.Size
     else if bytes_eq word (codes "stats") then Some keyword.Stats
@@ -129,6 +130,9 @@ SpellsBehind keyword.First t bytes all =
 SpellsBehind keyword.List t bytes all =
     (name : List ℕ) × (v : List ℕ) × (m : List ℕ) × (n : ℤ) × (most : ℤ) × (all ≡ name ∷ v ∷ m ∷ [])
     × IsTrue (is_name name) × (number v ≡ Some n) × (natural m ≡ Some most) × (t ≡ Listed name n most)
+SpellsBehind keyword.Entry t bytes all =
+    (name : List ℕ) × (r : List ℕ) × (c : List ℕ) × (row : ℤ) × (col : ℤ) × (all ≡ name ∷ r ∷ c ∷ [])
+    × IsTrue (is_name name) × (natural r ≡ Some row) × (natural c ≡ Some col) × (t ≡ Entry name row col)
 SpellsBehind keyword.Equal t bytes all =
     (name : List ℕ) × (other : List ℕ) × (all ≡ name ∷ other ∷ [])
     × IsTrue (is_name name) × IsTrue (is_name other) × (t ≡ Equal name other)

@@ -6,11 +6,11 @@ use Rattle.cf_model.specs.declared.terms.Word2.TheVariants.{And, Or, Xor, Plus, 
 use Rattle.cf_reference.specs.declared.grammar.Head.{Head}
 pub use Rattle.cf_reference.specs.declared.grammar.Kind.{Kind}
 pub use Rattle.cf_reference.specs.declared.grammar.Kind.TheVariants.{Expression as AnExpression, Variable as AVariable, Natural as ANatural, Number as ANumber, Bit as ABit}
-use Rattle.cf_reference.specs.declared.grammar.Head.TheVariants.{Const, One, Fold, Ite, Restrict, Exists, Forall, SumOut, Compose, AndExists}
+use Rattle.cf_reference.specs.declared.grammar.Head.TheVariants.{Const, One, Fold, Ite, Restrict, Exists, Forall, SumOut, Compose, AndExists, Kron, Matmul, Transpose, Id, Walsh, Unit}
 
 -- The heads of calls: the word of each, and the arguments that it takes.
 
--- the words that call, but for those over variables
+-- the words that call, but for those over variables and of matrices
 abbrev pub value_table : List (List ℕ × Head)
 value_table =
     (codes "const", Const)
@@ -40,12 +40,27 @@ variable_table =
     ∷ (codes "andexists", AndExists)
     ∷ []
 
+-- those of matrices
+abbrev pub matrix_table : List (List ℕ × Head)
+matrix_table =
+    (codes "kron", Kron)
+    ∷ (codes "matmul", Matmul)
+    ∷ (codes "transpose", Transpose)
+    ∷ (codes "id", Id)
+    ∷ (codes "walsh", Walsh)
+    ∷ (codes "unit", Unit)
+    ∷ []
+
 abbrev pub found_in : List (List ℕ × Head) → List ℕ → Option Head
 found_in [] word = None
 found_in (entry ∷ later) word = if bytes_eq word entry.0 then Some entry.1 else found_in later word
 
+unfoldable pub matrix_head : List ℕ → Option Head
+matrix_head word = found_in matrix_table word
+
+-- of those over variables or of matrices
 unfoldable pub variable_head : List ℕ → Option Head
-variable_head word = found_in variable_table word
+variable_head word = option_or (found_in variable_table word) (matrix_head word)
 
 -- what a word before `(` calls
 unfoldable pub head_of : List ℕ → Option Head
@@ -78,6 +93,12 @@ signature Forall = or_more (AnExpression ∷ AVariable ∷ []) AVariable
 signature SumOut = or_more (AnExpression ∷ AVariable ∷ []) AVariable
 signature Compose = exactly (AnExpression ∷ AVariable ∷ AnExpression ∷ [])
 signature AndExists = or_more (AnExpression ∷ AnExpression ∷ AVariable ∷ []) AVariable
+signature Kron = exactly (AnExpression ∷ AnExpression ∷ [])
+signature Matmul = exactly (AnExpression ∷ AnExpression ∷ [])
+signature Transpose = exactly (AnExpression ∷ [])
+signature Id = exactly (ANatural ∷ [])
+signature Walsh = exactly (ANatural ∷ [])
+signature Unit = exactly (ANatural ∷ ANatural ∷ ANatural ∷ [])
 
 abbrev pub counted : ℕ → Option Kind → ℕ → Bool
 counted least None n = n == least

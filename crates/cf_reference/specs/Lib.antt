@@ -15,6 +15,7 @@ pub mod Parsing
 pub mod Answers
 pub mod Loading
 pub mod Carrying
+pub mod Generator
+pub mod Forms
 pub mod Scripts
 pub mod Gives
-pub mod Generator

@@ -7,7 +7,7 @@ use Rattle.cf_reference.specs.declared.grammar.Keyword.TheVariants as keyword
 use Rattle.cf_reference.specs.declared.grammar.Head.{Head}
 use Rattle.cf_reference.specs.Heads.{Kind, AnExpression, head_of, takes, kind_at}
 use Rattle.cf_reference.specs.Words.{before_comment, behind_word, words, open_sign, close_sign, comma, equals, pieces, natural, number, is_name, is_bits}
-use Rattle.cf_reference.specs.Trees.{Atom, Tree, Arguments, Call, none, more, atom, count, Statement, Empty, Level, Vars, Let, Load, Value, First, Listed, Equal, Size, Stats, statement_fits}
+use Rattle.cf_reference.specs.Trees.{Atom, Tree, Arguments, Call, none, more, atom, count, Statement, Empty, Level, Vars, Let, Load, Value, First, Listed, Entry, Equal, Size, Stats, statement_fits}
 use Rattle.cf_reference.specs.Grammar.{keyword_of, leaf, atom_of}
 use Rattle.cf_reference.specs.Bytes as byte
 use Rattle.cf_reference.specs.LineRefusals.{Parsed, TooDeep, Malformed, WideNumber, Good, Parses}
@@ -89,6 +89,10 @@ abbrev pub listed : List ℕ → Option ℤ → Option ℤ → Option Statement
 listed name (Some n) (Some most) = Some (Listed name n most)
 listed name n most = None
 
+abbrev pub entry_of : List ℕ → Option ℤ → Option ℤ → Option Statement
+entry_of name (Some row) (Some col) = Some (Entry name row col)
+entry_of name row col = None
+
 -- what pieces load
 abbrev pub loaded_from : List (List ℕ) → Option Statement
 loaded_from (prefix ∷ file ∷ []) = if is_name prefix then Some (Load prefix file) else None
@@ -104,6 +108,7 @@ behind keyword.Load bytes all = loaded_from (pieces bytes)
 behind keyword.Value bytes (name ∷ bits ∷ []) = if is_name name && is_bits bits then Some (Value name bits) else None
 behind keyword.First bytes (name ∷ v ∷ []) = if is_name name then option_map (First name) (number v) else None
 behind keyword.List bytes (name ∷ v ∷ m ∷ []) = if is_name name then listed name (number v) (natural m) else None
+behind keyword.Entry bytes (name ∷ r ∷ c ∷ []) = if is_name name then entry_of name (natural r) (natural c) else None
 behind keyword.Equal bytes (name ∷ other ∷ []) = if is_name name && is_name other then Some (Equal name other) else None
 behind keyword.Size bytes (name ∷ []) = if is_name name then Some (Size name) else None
 behind keyword.Stats bytes [] = Some Stats

@@ -1,5 +1,6 @@
-use Rattle.std.specs.Prelude.{ℕ, ◌+◌, Bool, true, false, List, [], ◌∷◌, ◌++◌, if◌then◌else◌, codes}
-use Rattle.std.specs.Str.{bytes_eq}
+use Rattle.std.specs.Prelude.{ℕ, ◌+◌, Bool, true, false, List, [], ◌∷◌, ◌++◌, Option, Some, None, if◌then◌else◌}
+use Rattle.cf_reference.specs.Forms.{Form, Run, Generated, form_of}
+use Rattle.cf_reference.specs.Generator.{gen_script}
 use Rattle.cf_reference.specs.Lines.{Line, Fit, Fits, LineTooLong, ScriptTooLong, fit, known_by, size, lines}
 use Rattle.cf_reference.specs.LineRefusals.{Parsed}
 use Rattle.cf_reference.specs.LineRefusals as line
@@ -66,17 +67,34 @@ run_lines files s n before (l ∷ later) =
     then record { text = text_of n (carry files s before l); close = Refused; state = s; read = known_by before l (fit before l) }
     else adds (text_of n (carry files s before l)) (run_lines files (state_of s (carry files s before l)) (n + 1) (before + size l) later)
 
--- the words that run a script
-abbrev pub is_run : List (List ℕ) → Bool
-is_run (word ∷ []) = bytes_eq word (codes "run")
-is_run others = false
+-- what is written where the words have no form
+abbrev pub usage_end : Ending
+usage_end = record { text = usage_reply; close = Usage; state = initial; read = 0 }
 
--- what the program does with its words and a script, where there are these files
+-- the same end, for which nothing of the source has to be read
+abbrev pub reads_nothing : Ending → Ending
+reads_nothing end = record end { read = 0 }
+
+-- What the program does with the form of its words and with the bytes of its source, where there
+-- are these files. The script of a seed is carried out as if the source had it, and nothing of the
+-- source is read.
+abbrev pub ref_form : Files → Option Form → List ℕ → Ending
+ref_form files None source = usage_end
+ref_form files (Some Run) source = run_lines files initial 1 0 (lines source)
+ref_form files (Some (Generated seed)) source =
+    reads_nothing (run_lines files initial 1 0 (lines (gen_script seed)))
+
+-- what the program does with its words
 abbrev pub ref : Files → List (List ℕ) → List ℕ → Ending
-ref files words script =
-    if is_run words then run_lines files initial 1 0 (lines script)
-    else record { text = usage_reply; close = Usage; state = initial; read = 0 }
+ref files words source = ref_form files (form_of words) source
+
+-- The bytes of the source that are left where a run comes to its end without a refusal: none, or
+-- all of them where the script was generated or there is no form.
+abbrev pub unread : Option Form → List ℕ → List ℕ
+unread (Some Run) source = []
+unread other source = source
 
 -- The state that a run ends with has a level of 0 to 7, and flat functions.
 abbrev pub RunsEndInStates : Type 0
-RunsEndInStates = (files : Files) (said : List (List ℕ)) (script : List ℕ) → IsState (ref files said script).state
+RunsEndInStates =
+    (files : Files) (said : List (List ℕ)) (source : List ℕ) → IsState (ref files said source).state

@@ -41,6 +41,8 @@ pub data Statement : Type 0 where
   Value : List ℕ → List ℕ → Statement
   First : List ℕ → ℤ → Statement
   Listed : List ℕ → ℤ → ℤ → Statement
+  -- a name, a row and a column
+  Entry : List ℕ → ℤ → ℤ → Statement
   Equal : List ℕ → List ℕ → Statement
   Size : List ℕ → Statement
   Stats : Statement
@@ -90,6 +92,7 @@ statement_fits (Level n) = fits n
 statement_fits (Let name e) = tree_fits e
 statement_fits (First name n) = fits n
 statement_fits (Listed name n most) = fits n && fits most
+statement_fits (Entry name row col) = fits row && fits col
 statement_fits other = true
 
 -- a number that a NATURAL spells, and that fits in 128 signed bits
@@ -127,6 +130,7 @@ IsFormedStatement (Let name e) = IsFormed e
 IsFormedStatement (Value name bits) = IsTrue (are_digits bits)
 IsFormedStatement (First name n) = Fits n
 IsFormedStatement (Listed name n most) = Fits n × IsNatural most
+IsFormedStatement (Entry name row col) = IsNatural row × IsNatural col
 IsFormedStatement other = Unit {0}
 
 -- A statement is formed if besides at most 64 calls stand inside one another.

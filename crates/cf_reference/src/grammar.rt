@@ -19,6 +19,8 @@ pub enum Keyword {
     First,
     /// `list NAME NUMBER MAX`
     List,
+    /// `entry NAME ROW COL`
+    Entry,
     /// `equal NAME NAME`
     Equal,
     /// `size NAME`
@@ -50,6 +52,18 @@ pub enum Head {
     Compose,
     /// `andexists(E, E, VAR, ..)`
     AndExists,
+    /// `kron(E, E)`
+    Kron,
+    /// `matmul(E, E)`
+    Matmul,
+    /// `transpose(E)`
+    Transpose,
+    /// `id(J)`
+    Id,
+    /// `walsh(J)`
+    Walsh,
+    /// `unit(J, R, C)`
+    Unit,
 }
 
 /// What an argument of a call is.

@@ -1,12 +1,11 @@
-//! Tests that cross crates: streams whose calls fail, the adapters, a session that builds twice, and the calls
-//! that no run makes.
+//! Tests that cross crates: streams that are cut or fail, the adapters, and the calls that no run makes.
 #![tactic(auto)]
 
 #[cfg(test)]
 mod calls;
 #[cfg(test)]
-mod running;
+mod generated;
 #[cfg(test)]
-mod sessions;
+mod running;
 #[cfg(test)]
 mod streams;

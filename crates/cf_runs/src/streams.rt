@@ -1,4 +1,4 @@
-//! Failing reads and writes, and the adapters over readers and writers.
+//! Cut scripts, failing reads and writes, and the adapters over readers and writers.
 
 use crate::running::run_script;
 use cf_io::{HostSink, HostSource, Lines, MemSink, MemSource, Next, Source, put_all};
@@ -8,35 +8,63 @@ use std::alloc::{AllocError, Global};
 use std::io::{self, ErrorKind, Read, Write};
 use std::test::Fail;
 
-const SCRIPT: &[u8] = b"level 0\nlet f = @0\nvalue f 0\nvalue f 1\n";
+/// The square of the Walsh matrix of 2^64 rows is 2^64 times the identity.
+const SCRIPT: &[u8] = b"level 7
+let w = walsh(7)
+let q = matmul(w,w)
+entry q 0 0
+entry q 18446744073709551615 18446744073709551615
+entry q 0 1
+let d = times(id(7),18446744073709551616)
+equal q d
+size w
+size q
+";
 
-/// The script, of which the reads of these numbers fail.
-fn failing_source(alloc: Global, reads: &[u64]) -> Result<MemSource, AllocError> {
-    let script = SCRIPT.to_vec(alloc)?;
-    Ok(MemSource::new(script, 12, 0, reads.to_vec(alloc)?))
-}
+const REPLIES: &[u8] = b"18446744073709551616
+18446744073709551616
+0
+equal
+size 2 1 1 1 1 1 1 1 exits 2
+size 2 2 2 2 2 2 2 1 exits 2
+";
 
-/// A sink of which the writes of these numbers fail.
-fn failing_sink(alloc: Global, writes: &[u64]) -> Result<MemSink, AllocError> {
-    MemSink::new(alloc, 100, 100, writes.to_vec(alloc)?)
-}
-
-/// How a run ends whose reads and writes of given numbers fail.
-fn status_of(
+/// How a run of the script ends whose reads and writes of given numbers fail, and what it writes.
+fn run_of(
     alloc: Global,
-    source: &mut MemSource,
-    sink: &mut MemSink,
-) -> Result<Status, AllocError> {
+    piece: usize,
+    cut: usize,
+    reads: &[u64],
+    writes: &[u64],
+) -> Result<(Status, MemSink), AllocError> {
+    let mut source = MemSource::new(
+        SCRIPT.to_vec(alloc)?,
+        piece.max(1),
+        cut,
+        reads.to_vec(alloc)?,
+    );
+    let mut sink = MemSink::new(alloc, 200, 100, writes.to_vec(alloc)?)?;
     let mut session = Session::new(alloc)?;
-    run_script(alloc, &mut session, source, sink)
+    let status = run_script(alloc, &mut session, &mut source, &mut sink)?;
+    Ok((status, sink))
+}
+
+#[test]
+fn a_script_writes_the_same_however_it_is_cut(rt: HostRuntime) -> Result<(), Fail> {
+    for cut in 0..SCRIPT.len() {
+        let (status, sink) = run_of(rt.alloc(), SCRIPT.len(), cut, &[], &[])?;
+        assert_eq!(rt; sink.bytes(), REPLIES);
+        assert_eq!(rt; status, Status::Done);
+    }
+    let (_, sink) = run_of(rt.alloc(), 1, 0, &[], &[])?;
+    assert_eq!(rt; sink.bytes(), REPLIES);
+    Ok(())
 }
 
 #[test]
 fn a_read_that_fails_ends_the_run_after_the_lines_before_it(rt: HostRuntime) -> Result<(), Fail> {
-    let mut source = failing_source(rt.alloc(), &[3])?;
-    let mut sink = failing_sink(rt.alloc(), &[])?;
-    let status = status_of(rt.alloc(), &mut source, &mut sink)?;
-    assert_eq!(rt; sink.bytes(), b"0\n".as_slice());
+    let (status, sink) = run_of(rt.alloc(), 60, 0, &[1], &[])?;
+    assert_eq!(rt; sink.bytes(), b"18446744073709551616\n".as_slice());
     assert_eq!(rt; status, Status::ReadFault);
     Ok(())
 }
@@ -45,10 +73,11 @@ fn a_read_that_fails_ends_the_run_after_the_lines_before_it(rt: HostRuntime) -> 
 fn a_write_that_fails_ends_the_run_after_the_replies_before_it(
     rt: HostRuntime,
 ) -> Result<(), Fail> {
-    let mut source = failing_source(rt.alloc(), &[])?;
-    let mut sink = failing_sink(rt.alloc(), &[1])?;
-    let status = status_of(rt.alloc(), &mut source, &mut sink)?;
-    assert_eq!(rt; sink.bytes(), b"0\n".as_slice());
+    let (status, sink) = run_of(rt.alloc(), 60, 0, &[], &[2])?;
+    assert_eq!(rt;
+        sink.bytes(),
+        b"18446744073709551616\n18446744073709551616\n".as_slice()
+    );
     assert_eq!(rt; status, Status::WriteFault);
     Ok(())
 }

@@ -21,7 +21,7 @@ use Rattle.cf_model.specs.declared.terms.Word2.{Word2}
 use Rattle.cf_script.specs.declared.arguments.Argument.{Argument}
 use Rattle.cf_script.specs.declared.arguments.Argument.TheVariants as argument
 use Rattle.cf_model.specs.declared.terms.Word2.TheVariants.{And, Or, Xor, Plus, Minus, Times, Min, Max, Eq, Lt}
-use Rattle.cf_reference.specs.declared.grammar.Head.TheVariants.{Const, One, Fold, Ite, Restrict, Exists, Forall, SumOut, Compose, AndExists}
+use Rattle.cf_reference.specs.declared.grammar.Head.TheVariants.{Const, One, Fold, Ite, Restrict, Exists, Forall, SumOut, Compose, AndExists, Kron, Matmul, Transpose, Id, Walsh, Unit as UnitAt}
 use Rattle.cf_script.specs.declared.trees.Exprs.{Exprs}
 use Rattle.cf_script.specs.declared.arguments.Gathered.{Gathered}
 use Rattle.cf_script.specs.declared.arguments.Gathered.TheVariants as form
@@ -198,6 +198,12 @@ list_kind Forall i h = absurd (false≢true h)
 list_kind SumOut i h = absurd (false≢true h)
 list_kind Compose i h = absurd (false≢true h)
 list_kind AndExists i h = absurd (false≢true h)
+list_kind Kron i h = absurd (false≢true h)
+list_kind Matmul i h = absurd (false≢true h)
+list_kind Transpose i h = absurd (false≢true h)
+list_kind Id i h = absurd (false≢true h)
+list_kind Walsh i h = absurd (false≢true h)
+list_kind UnitAt i h = absurd (false≢true h)
 
 -- a call that keeps no list has at most three arguments
 few_taken : (head : Head) (n : ℕ) → is_few head ≡ true → takes head n ≡ true → n ≤ 3
@@ -211,6 +217,12 @@ few_taken Forall n h t = absurd (false≢true h)
 few_taken SumOut n h t = absurd (false≢true h)
 few_taken Compose n h t = grind (arith, nat_tests)
 few_taken AndExists n h t = absurd (false≢true h)
+few_taken Kron n h t = grind (arith, nat_tests)
+few_taken Matmul n h t = grind (arith, nat_tests)
+few_taken Transpose n h t = grind (arith, nat_tests)
+few_taken Id n h t = grind (arith, nat_tests)
+few_taken Walsh n h t = grind (arith, nat_tests)
+few_taken UnitAt n h t = grind (arith, nat_tests)
 
 three_long : (args : Gathered) → has_three args ≡ true → length (gathered args) ≡ 3
 three_long form.Empty three = absurd (false≢true three)

@@ -1,12 +1,12 @@
 -- The arguments of a call over variables.
-use Rattle.std.proofs.Common.{ℕ, ℤ, zero, suc, ◌≡◌, Bool, true, false, List, [], ◌∷◌, ◌++◌, ◌+◌, length, Option, Some, Result, Ok, Err, refl, ap, sym, subst, ◌∙◌, arith}
+use Rattle.std.proofs.Common.{ℕ, ℤ, zero, suc, ◌≡◌, true, false, List, [], ◌∷◌, ◌++◌, ◌+◌, length, Option, Result, Ok, Err, refl, ap, sym, subst, ◌∙◌, arith}
 use Rattle.std.specs.Prelude.{OnOk}
 use Rattle.std.proofs.lemmas.Bool.{false≢true}
 use Rattle.std.proofs.lemmas.List.{append_assoc, length-append}
 use Rattle.cf_reference.specs.declared.grammar.Head.{Head}
-use Rattle.cf_reference.specs.declared.grammar.Head.TheVariants.{Const, One, Fold, Ite, Restrict, Exists, Forall, SumOut, Compose, AndExists}
+use Rattle.cf_reference.specs.declared.grammar.Head.TheVariants.{Const, One, Fold, Ite, Restrict, Exists, Forall, SumOut, Compose, AndExists, Kron, Matmul, Transpose, Id, Walsh, Unit as UnitAt}
 use Rattle.cf_reference.specs.declared.grammar.Kind.{Kind}
-use Rattle.cf_reference.specs.declared.grammar.Kind.TheVariants.{Expression as AnExpression, Variable as AVariable, Natural as ANatural, Number as ANumber, Bit as ABit}
+use Rattle.cf_reference.specs.declared.grammar.Kind.TheVariants.{Expression as AnExpression, Variable as AVariable}
 use Rattle.cf_reference.specs.Heads.{kind_at}
 use Rattle.cf_script.specs.declared.trees.Expr.{Expr}
 use Rattle.cf_script.specs.declared.trees.Var.{Var}
@@ -28,6 +28,12 @@ first_kind (Fold word) h = absurd (false≢true h)
 first_kind Ite h = absurd (false≢true h)
 first_kind Restrict h = absurd (false≢true h)
 first_kind Compose h = absurd (false≢true h)
+first_kind Kron h = absurd (false≢true h)
+first_kind Matmul h = absurd (false≢true h)
+first_kind Transpose h = absurd (false≢true h)
+first_kind Id h = absurd (false≢true h)
+first_kind Walsh h = absurd (false≢true h)
+first_kind UnitAt h = absurd (false≢true h)
 first_kind Exists h = refl
 first_kind Forall h = refl
 first_kind SumOut h = refl
@@ -40,6 +46,12 @@ later_kind (Fold word) i h = absurd (false≢true h)
 later_kind Ite i h = absurd (false≢true h)
 later_kind Restrict i h = absurd (false≢true h)
 later_kind Compose i h = absurd (false≢true h)
+later_kind Kron i h = absurd (false≢true h)
+later_kind Matmul i h = absurd (false≢true h)
+later_kind Transpose i h = absurd (false≢true h)
+later_kind Id i h = absurd (false≢true h)
+later_kind Walsh i h = absurd (false≢true h)
+later_kind UnitAt i h = absurd (false≢true h)
 later_kind Exists i h = refl
 later_kind Forall i h = refl
 later_kind SumOut i h = refl
@@ -53,6 +65,12 @@ no_number_second (Fold word) n h k = absurd (false≢true h)
 no_number_second Ite n h k = absurd (false≢true h)
 no_number_second Restrict n h k = absurd (false≢true h)
 no_number_second Compose n h k = absurd (false≢true h)
+no_number_second Kron n h k = absurd (false≢true h)
+no_number_second Matmul n h k = absurd (false≢true h)
+no_number_second Transpose n h k = absurd (false≢true h)
+no_number_second Id n h k = absurd (false≢true h)
+no_number_second Walsh n h k = absurd (false≢true h)
+no_number_second UnitAt n h k = absurd (false≢true h)
 no_number_second Exists n h k = k
 no_number_second Forall n h k = k
 no_number_second SumOut n h k = k

@@ -7,7 +7,7 @@ use Rattle.cf_model.specs.Values.{fits, fitting}
 use Rattle.cf_reference.specs.declared.grammar.Keyword.{Keyword}
 use Rattle.cf_reference.specs.declared.grammar.Keyword.TheVariants as keyword
 use Rattle.cf_reference.specs.Words.{before_comment, behind_word, words, natural, number, is_name, equals}
-use Rattle.cf_reference.specs.Trees.{tree_fits, Statement, Level, Let, First, Listed, statement_fits, Formed}
+use Rattle.cf_reference.specs.Trees.{tree_fits, Statement, Level, Let, First, Listed, Entry, statement_fits, Formed}
 use Rattle.cf_reference.specs.Grammar.{keyword_of, SpellsTree, SpellsBehind}
 use Rattle.cf_reference.specs.LineRefusals.{IsDeep}
 use Rattle.cf_reference.proofs.DepthLaws.{words_formed}
@@ -61,6 +61,13 @@ list-wide bytes name word most_word all value most is named none read_value read
     let h = has-number (number word) value read_value in
     let k = has-number (natural most_word) most read_most in
     (Listed name h.n k.n, (name, word, most_word, h.n, k.n, is, named, h.is, k.is, refl), not_both value most h.n k.n none h.value k.value)
+
+pub entry-wide : (bytes name row_word col_word : List ℕ) (all : List (List ℕ)) (row col : Option ℤ) → all ≡ name ∷ row_word ∷ col_word ∷ [] → is_name name ≡ true → None ≡ option_zip row col
+    → Some row ≡ option_map fitting (natural row_word) → Some col ≡ option_map fitting (natural col_word) → IsWide keyword.Entry bytes all
+entry-wide bytes name row_word col_word all row col is named none read_row read_col =
+    let h = has-number (natural row_word) row read_row in
+    let k = has-number (natural col_word) col read_col in
+    (Entry name h.n k.n, (name, row_word, col_word, h.n, k.n, is, named, h.is, k.is, refl), not_both row col h.n k.n none h.value k.value)
 
 -- an expression that was read, of which nothing is left, is what the words spell
 pub let-good : (bytes name : List ℕ) (e : Expr) (all inside : List (List ℕ)) → SpellsName name all inside → IsReading e inside [] → any_wide inside ≡ false

@@ -196,7 +196,8 @@ keyword-memory word rest key h keeps =
     entry_of word (codes "value") _ _ key (λ w. takes_memory (w ∷ rest) ≡ true) (λ e. forgets keyword.Value key (takes_memory (codes "value" ∷ rest) ≡ true) refl keeps e) h (λ h.
     entry_of word (codes "first") _ _ key (λ w. takes_memory (w ∷ rest) ≡ true) (λ e. forgets keyword.First key (takes_memory (codes "first" ∷ rest) ≡ true) refl keeps e) h (λ h.
     entry_of word (codes "list") _ _ key (λ w. takes_memory (w ∷ rest) ≡ true) (λ e. forgets keyword.List key (takes_memory (codes "list" ∷ rest) ≡ true) refl keeps e) h (λ h.
+    entry_of word (codes "entry") _ _ key (λ w. takes_memory (w ∷ rest) ≡ true) (λ e. forgets keyword.Entry key (takes_memory (codes "entry" ∷ rest) ≡ true) refl keeps e) h (λ h.
     entry_of word (codes "equal") _ _ key (λ w. takes_memory (w ∷ rest) ≡ true) (λ e. forgets keyword.Equal key (takes_memory (codes "equal" ∷ rest) ≡ true) refl keeps e) h (λ h.
     entry_of word (codes "size") _ _ key (λ w. takes_memory (w ∷ rest) ≡ true) (λ e. forgets keyword.Size key (takes_memory (codes "size" ∷ rest) ≡ true) refl keeps e) h (λ h.
     entry_of word (codes "stats") _ _ key (λ w. takes_memory (w ∷ rest) ≡ true) (λ e. forgets keyword.Stats key (takes_memory (codes "stats" ∷ rest) ≡ true) refl keeps e) h (λ h.
-    no_more key (takes_memory (word ∷ rest) ≡ true) h))))))))))
+    no_more key (takes_memory (word ∷ rest) ≡ true) h)))))))))))

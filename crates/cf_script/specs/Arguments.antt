@@ -1,7 +1,7 @@
 use Rattle.std.specs.Prelude.{ℕ, suc, zero, ◌≡◌, ◌||◌, pos, List, [], ◌∷◌, ◌++◌, length, Bool, true, false, Option, Some, None, IsTrue}
 use Rattle.std.specs.Ordering.{int_eq}
 use Rattle.cf_reference.specs.declared.grammar.Head.{Head}
-use Rattle.cf_reference.specs.declared.grammar.Head.TheVariants.{Const, One, Fold, Ite, Restrict, Exists, Forall, SumOut, Compose, AndExists}
+use Rattle.cf_reference.specs.declared.grammar.Head.TheVariants.{Const, One, Fold, Ite, Restrict, Exists, Forall, SumOut, Compose, AndExists, Kron, Matmul, Transpose, Id, Walsh, Unit as UnitAt}
 use Rattle.cf_reference.specs.declared.grammar.Kind.{Kind}
 use Rattle.cf_reference.specs.declared.grammar.Kind.TheVariants.{Expression as AnExpression, Variable as AVariable, Natural as ANatural, Number as ANumber, Bit as ABit}
 use Rattle.cf_reference.specs.Heads.{kind_at, takes}
@@ -98,13 +98,23 @@ is_over SumOut = true
 is_over AndExists = true
 is_over other = false
 
+-- whether a call makes a matrix
+abbrev pub is_matrix : Head → Bool
+is_matrix Kron = true
+is_matrix Matmul = true
+is_matrix Transpose = true
+is_matrix Id = true
+is_matrix Walsh = true
+is_matrix UnitAt = true
+is_matrix other = false
+
 -- whether a call has at most three arguments, and keeps no list
 abbrev pub is_few : Head → Bool
 is_few Const = true
 is_few (One word) = true
 is_few Restrict = true
 is_few Compose = true
-is_few other = false
+is_few other = is_matrix other
 
 -- the kind of each place
 abbrev pub HaveKinds : (ℕ → Kind) → List Argument → Type 0

@@ -2,7 +2,7 @@ use Rattle.std.specs.Prelude.{ℤ, pos, Bool, List, [], ◌∷◌, if◌then◌e
 use Rattle.cf_reference.specs.declared.grammar.Head.TheVariants as head
 use Rattle.cf_reference.specs.Trees.{Number, Tree, Num, At, Named, Call, Arguments, none, more, atom}
 use Rattle.cf_reference.specs.Trees as tree
-use Rattle.cf_script.specs.declared.trees.Expr.{Expr, One', Fold', Ite', Restrict', Exists', Forall', SumOut', Compose', AndExists', Row_of-Expr, end_of-Expr, more_of-Expr}
+use Rattle.cf_script.specs.declared.trees.Expr.{Expr, One', Fold', Ite', Restrict', Exists', Forall', SumOut', Compose', AndExists', Kron', Matmul', Transpose', Row_of-Expr, end_of-Expr, more_of-Expr}
 use Rattle.cf_script.specs.declared.trees.Expr as expr
 use Rattle.cf_script.specs.declared.trees.Var.{Var}
 use Rattle.cf_script.specs.Vars.{atom_of}
@@ -33,6 +33,12 @@ abbrev mutual
   tree_of (SumOut' at e vars) = Call head.SumOut (more (tree_of e) (atoms vars))
   tree_of (Compose' at e v also f) = Call head.Compose (more (tree_of e) (atom (atom_of v) (more (tree_of f) none)))
   tree_of (AndExists' at e also f vars) = Call head.AndExists (more (tree_of e) (more (tree_of f) (atoms vars)))
+  tree_of (Kron' at e also f) = Call head.Kron (more (tree_of e) (more (tree_of f) none))
+  tree_of (Matmul' at e also f) = Call head.Matmul (more (tree_of e) (more (tree_of f) none))
+  tree_of (Transpose' at e) = Call head.Transpose (more (tree_of e) none)
+  tree_of (expr.Id level) = Call head.Id (atom (Number level) none)
+  tree_of (expr.Walsh level) = Call head.Walsh (atom (Number level) none)
+  tree_of (expr.Unit level row col) = Call head.Unit (atom (Number level) (atom (Number row) (atom (Number col) none)))
 
   pub row_of : {m : _} → Row_of-Expr m → Arguments
   row_of end_of-Expr = none
@@ -52,6 +58,7 @@ statement_of (statement.Load prefix file) = tree.Load prefix.now file.now
 statement_of (statement.Value name bits) = tree.Value name.now bits.now
 statement_of (statement.First name n) = tree.First name.now n
 statement_of (statement.List name n most) = tree.Listed name.now n most
+statement_of (statement.Entry name row col) = tree.Entry name.now row col
 statement_of (statement.Equal name other) = tree.Equal name.now other.now
 statement_of (statement.Size name) = tree.Size name.now
 statement_of statement.Stats = tree.Stats

@@ -41,6 +41,28 @@ impl<'a> Argument<'a> {
         }
     }
 
+    /// The number of a place that takes no sign.
+    fn natural(self) -> i128
+        requires { IsOf Kind.Natural self }
+        ensures { self.entry ≡ Argument.Number result }
+    {
+        match self {
+            Argument::Number(n) => n,
+            _ => unreachable!(),
+        }
+    }
+
+    /// The number of a place that takes any.
+    fn number(self) -> i128
+        requires { IsOf Kind.Number self }
+        ensures { self.entry ≡ Argument.Number result }
+    {
+        match self {
+            Argument::Number(n) => n,
+            _ => unreachable!(),
+        }
+    }
+
     /// The bit.
     fn bit(self) -> bool
         requires { IsOf Kind.Bit self }
@@ -90,10 +112,8 @@ impl<'a> Gathered<'a> {
         requires { has_three self.old ≡ false }
         ensures { gathered self.new ≡ gathered self.old ++ argument.entry ∷ [] }
     {
-        match self {
-            Gathered::Empty => *self = Gathered::One(argument),
-            _ => *self = replace(self, Gathered::Empty).followed_by(argument),
-        }
+        let longer = replace(self, Gathered::Empty).followed_by(argument);
+        drop(replace(self, longer));
     }
 
     /// The same with one more behind them.
@@ -115,7 +135,7 @@ impl<'a> Gathered<'a> {
         ensures { gathered self.entry ≡ Argument.Number result.0 ∷ Argument.Number result.1 ∷ [] }
     {
         match self {
-            Gathered::Two(Argument::Number(first), Argument::Number(second)) => (first, second),
+            Gathered::Two(first, second) => (first.natural(), second.number()),
             _ => unreachable!(),
         }
     }
@@ -126,7 +146,43 @@ impl<'a> Gathered<'a> {
         ensures { gathered self.entry ≡ Argument.Expr result ∷ [] }
     {
         match self {
-            Gathered::One(Argument::Expr(e)) => e,
+            Gathered::One(e) => e.expr(),
+            _ => unreachable!(),
+        }
+    }
+
+    /// The two expressions.
+    pub(crate) fn two_exprs(self) -> (Expr<'a>, Expr<'a>)
+        requires { OfKinds (Kind.Expression ∷ Kind.Expression ∷ []) None (gathered self) }
+        ensures { gathered self.entry ≡ Argument.Expr result.0 ∷ Argument.Expr result.1 ∷ [] }
+    {
+        match self {
+            Gathered::Two(e, f) => (e.expr(), f.expr()),
+            _ => unreachable!(),
+        }
+    }
+
+    /// The one number.
+    pub(crate) fn number(self) -> i128
+        requires { OfKinds (Kind.Natural ∷ []) None (gathered self) }
+        ensures { gathered self.entry ≡ Argument.Number result ∷ [] }
+    {
+        match self {
+            Gathered::One(n) => n.natural(),
+            _ => unreachable!(),
+        }
+    }
+
+    /// The three numbers.
+    pub(crate) fn three_numbers(self) -> (i128, i128, i128)
+        requires { OfKinds (Kind.Natural ∷ Kind.Natural ∷ Kind.Natural ∷ []) None (gathered self) }
+        ensures { gathered self.entry ≡
+            Argument.Number result.0 ∷ Argument.Number result.1 ∷ Argument.Number result.2 ∷ [] }
+    {
+        match self {
+            Gathered::Three(first, second, third) => {
+                (first.natural(), second.natural(), third.natural())
+            }
             _ => unreachable!(),
         }
     }
@@ -177,6 +233,15 @@ impl<'a> Operands<'a> {
         }
     }
 
+    /// One more expression comes behind them.
+    fn push(&mut self, e: Expr<'a>)
+        requires { has_both self.old ≡ false }
+        ensures { operands_of self.new ≡ operands_of self.old ++ Argument.Expr e.entry ∷ [] }
+    {
+        let longer = replace(self, Operands::Empty).followed_by(e);
+        drop(replace(self, longer));
+    }
+
     /// The same with one more behind them.
     fn followed_by(self, e: Expr<'a>) -> Operands<'a>
         requires { has_both self ≡ false }
@@ -222,7 +287,7 @@ impl<'a> Over<'a> {
     {
         match argument {
             Argument::Expr(e) => {
-                self.operands = replace(&mut self.operands, Operands::Empty).followed_by(e);
+                self.operands.push(e);
                 Ok(())
             }
             Argument::Var(var) => self.vars.push(var),

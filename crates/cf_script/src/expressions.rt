@@ -1,15 +1,16 @@
 //! The expressions of a line.
 
-ghost use Rattle.std.specs.Prelude.{◌≡◌, ◌<◌, [], length, true, false, None, IfOk, IfSome, IfNone, IsErrOf};
+ghost use Rattle.std.specs.Prelude.{◌≡◌, ◌<◌, [], length, true, false, None, IfOk, IfSome, IfNone, IsErrOf, drop};
 ghost use Rattle.cf_reference.specs.Words.{words};
-ghost use Rattle.cf_reference.specs.Heads.{value_table, found_in, head_of as head_of_word, variable_head as variable_head_of, kind_at as kind_of, takes as takes_of, signature};
+ghost use Rattle.cf_reference.specs.Heads.{value_table, found_in, head_of as head_of_word, variable_head as variable_head_of, matrix_head as matrix_head_of, kind_at as kind_of, takes as takes_of, signature};
 ghost use Rattle.cf_reference.specs.Trees.{Call};
 ghost use Rattle.cf_reference.specs.Grammar.{leaf as leaf_of, atom_of as atom_of_word};
 ghost use Rattle.cf_script.specs.Views.{tree_of};
-ghost use Rattle.cf_script.specs.Arguments.{IsWord, OfKinds, held, as_arguments, gathered, over, is_few, is_list, is_over, IsArgument, IsCall, SpellsNoArgument, AreGathered, SpellsNoArguments};
+ghost use Rattle.cf_script.specs.Arguments.{IsWord, OfKinds, held, as_arguments, gathered, over, is_few, is_matrix, is_list, is_over, IsArgument, IsCall, SpellsNoArgument, AreReadings, AreGathered, SpellsNoArguments};
 ghost use Rattle.cf_script.specs.Readings.{IsReading, IsLeaf, SpellsNone};
 
 use crate::arguments::{Argument, Gathered, Over};
+use crate::calls::{few_call, over_call};
 use crate::numbers::{natural, number, place};
 use crate::trees::{Expr, Exprs, Var};
 use crate::words::{after, is_name, next_word};
@@ -86,7 +87,7 @@ fn head_of(word: &[u8]) -> Option<Head>
     }
 }
 
-/// What a word before `(` calls, but for those over variables.
+/// What a word before `(` calls, but for those over variables and of matrices.
 #[inline(always)]
 fn value_head(word: &[u8]) -> Option<Head>
     ensures { result ≡ found_in value_table word.now }
@@ -98,6 +99,16 @@ fn value_head(word: &[u8]) -> Option<Head>
         b"and" => Some(Head::Fold(Word2::And)),
         b"or" => Some(Head::Fold(Word2::Or)),
         b"xor" => Some(Head::Fold(Word2::Xor)),
+        _ => number_head(word),
+    }
+}
+
+/// What a word before `(` calls, of those but for the first six.
+#[inline(always)]
+fn number_head(word: &[u8]) -> Option<Head>
+    ensures { result ≡ found_in (drop 6 value_table) word.now }
+{
+    match word {
         b"plus" => Some(Head::Fold(Word2::Plus)),
         b"minus" => Some(Head::Fold(Word2::Minus)),
         b"times" => Some(Head::Fold(Word2::Times)),
@@ -110,7 +121,7 @@ fn value_head(word: &[u8]) -> Option<Head>
     }
 }
 
-/// What a word before `(` calls of those over variables.
+/// What a word before `(` calls of those over variables or of matrices.
 #[tactic(auto, unfolding(cf_reference::specs::Heads::variable_head))]
 fn variable_head(word: &[u8]) -> Option<Head>
     ensures { result ≡ variable_head_of word.now }
@@ -128,6 +139,28 @@ fn variable_head(word: &[u8]) -> Option<Head>
     } else if word == b"andexists".as_slice() {
         Some(Head::AndExists)
     } else {
+        matrix_head(word)
+    }
+}
+
+/// What a word before `(` calls of those of matrices.
+#[tactic(auto, unfolding(cf_reference::specs::Heads::matrix_head))]
+fn matrix_head(word: &[u8]) -> Option<Head>
+    ensures { result ≡ matrix_head_of word.now }
+{
+    if word == b"kron".as_slice() {
+        Some(Head::Kron)
+    } else if word == b"matmul".as_slice() {
+        Some(Head::Matmul)
+    } else if word == b"transpose".as_slice() {
+        Some(Head::Transpose)
+    } else if word == b"id".as_slice() {
+        Some(Head::Id)
+    } else if word == b"walsh".as_slice() {
+        Some(Head::Walsh)
+    } else if word == b"unit".as_slice() {
+        Some(Head::Unit)
+    } else {
         None
     }
 }
@@ -143,6 +176,15 @@ fn kind_at(head: Head, place: usize) -> Kind
             _ => Kind::Expression,
         },
         Head::One(_) | Head::Fold(_) | Head::Ite => Kind::Expression,
+        Head::Kron | Head::Matmul | Head::Transpose => Kind::Expression,
+        Head::Id | Head::Walsh => match place {
+            0 => Kind::Natural,
+            _ => Kind::Expression,
+        },
+        Head::Unit => match place {
+            0 | 1 | 2 => Kind::Natural,
+            _ => Kind::Expression,
+        },
         Head::Restrict => match place {
             1 => Kind::Variable,
             2 => Kind::Bit,
@@ -170,9 +212,9 @@ fn takes(head: Head, arguments: usize) -> bool
     match head {
         Head::Fold(Word2::Minus | Word2::Eq | Word2::Lt) => arguments == 2,
         Head::Fold(_) => arguments >= 2,
-        Head::Const => arguments == 2,
-        Head::One(_) => arguments == 1,
-        Head::Ite | Head::Restrict | Head::Compose => arguments == 3,
+        Head::One(_) | Head::Transpose | Head::Id | Head::Walsh => arguments == 1,
+        Head::Const | Head::Kron | Head::Matmul => arguments == 2,
+        Head::Ite | Head::Restrict | Head::Compose | Head::Unit => arguments == 3,
         Head::Exists | Head::Forall | Head::SumOut => arguments >= 2,
         Head::AndExists => arguments >= 3,
     }
@@ -264,7 +306,7 @@ fn read_call<'a>(alloc: Global, head: Head, text: &'a [u8]) -> Result<(Expr<'a>,
         Head::Exists | Head::Forall | Head::SumOut | Head::AndExists => {
             read_over(alloc, head, text)
         }
-        Head::Const | Head::One(_) | Head::Restrict | Head::Compose => read_few(alloc, head, text),
+        _ => read_few(alloc, head, text),
     }
 }
 
@@ -278,8 +320,13 @@ fn read_few<'a>(alloc: Global, head: Head, text: &'a [u8]) -> Result<(Expr<'a>, 
     ensures only { IsErrOf result Fault.Malformed → SpellsNoArguments head (words text.now) }
 {
     let mut args = Gathered::Empty;
-    let rest = gather(alloc, head, &mut args, text)?;
-    Ok((few_call(alloc, head, args)?, rest))
+    match gather(alloc, head, &mut args, text) {
+        Ok(rest) => Ok((few_call(alloc, head, args)?, rest)),
+        Err(fault) => {
+            drop(args);
+            Err(fault)
+        }
+    }
 }
 
 /// The call of a head that keeps a list of its arguments, from the text behind its `(`.
@@ -292,6 +339,31 @@ fn read_list<'a>(alloc: Global, head: Head, text: &'a [u8]) -> Result<(Expr<'a>,
     ensures only { IsErrOf result Fault.Malformed → SpellsNoArguments head (words text.now) }
 {
     let mut es = Exprs::with_capacity(alloc, 2)?;
+    match gather_list(alloc, head, &mut es, text) {
+        Ok(rest) => Ok((list_call(head, es), rest)),
+        Err(fault) => {
+            drop(es);
+            Err(fault)
+        }
+    }
+}
+
+/// Gathers the arguments of a head that keeps a list of them, where there are none so far.
+#[cycle(expressions)]
+#[inline(always)]
+fn gather_list<'a>(
+    alloc: Global,
+    head: Head,
+    es: &mut Exprs<'a>,
+    text: &'a [u8],
+) -> Result<&'a [u8], Fault>
+    requires none { es.old.items.items ≡ [] }
+    requires list { is_list head ≡ true }
+    ensures found { IfOk result
+        (λ r. AreReadings head (as_arguments es.new.items.items) (words text.now) (words r.now)) }
+    ensures shorter { IfOk result (λ r. length r.now < length text.now) }
+    ensures only { IsErrOf result Fault.Malformed → SpellsNoArguments head (words text.now) }
+{
     let (first, mut end) = read_expr(alloc, text)?;
     es.push(first)?;
     while let Some(more) = after(b',', end) {
@@ -302,7 +374,7 @@ fn read_list<'a>(alloc: Global, head: Head, text: &'a [u8]) -> Result<(Expr<'a>,
     match after(b')', end) {
         Some(rest) => {
             if takes(head, es.items().len()) {
-                Ok((list_call(head, es), rest))
+                Ok(rest)
             } else {
                 Err(Fault::Malformed)
             }
@@ -321,6 +393,31 @@ fn read_over<'a>(alloc: Global, head: Head, text: &'a [u8]) -> Result<(Expr<'a>,
     ensures only { IsErrOf result Fault.Malformed → SpellsNoArguments head (words text.now) }
 {
     let mut args = Over::new(alloc);
+    match gather_over(alloc, head, &mut args, text) {
+        Ok(rest) => Ok((over_call(alloc, head, args)?, rest)),
+        Err(fault) => {
+            drop(args);
+            Err(fault)
+        }
+    }
+}
+
+/// Gathers the arguments of a head over variables, where there are none so far.
+#[cycle(expressions)]
+#[inline(always)]
+fn gather_over<'a>(
+    alloc: Global,
+    head: Head,
+    args: &mut Over<'a>,
+    text: &'a [u8],
+) -> Result<&'a [u8], Fault>
+    requires none { over args.old ≡ [] }
+    requires over { is_over head ≡ true }
+    ensures found { IfOk result
+        (λ r. AreReadings head (over args.new) (words text.now) (words r.now)) }
+    ensures shorter { IfOk result (λ r. length r.now < length text.now) }
+    ensures only { IsErrOf result Fault.Malformed → SpellsNoArguments head (words text.now) }
+{
     let (first, mut end) = read_argument(alloc, kind_at(head, 0), text)?;
     args.push(first)?;
     while let Some(more) = after(b',', end) {
@@ -331,7 +428,7 @@ fn read_over<'a>(alloc: Global, head: Head, text: &'a [u8]) -> Result<(Expr<'a>,
     match after(b')', end) {
         Some(rest) => {
             if takes(head, args.len()) {
-                Ok((over_call(alloc, head, args)?, rest))
+                Ok(rest)
             } else {
                 Err(Fault::Malformed)
             }
@@ -373,58 +470,6 @@ fn gather<'a>(
             }
         }
         None => Err(Fault::Malformed),
-    }
-}
-
-/// The call of a head that keeps no list of its arguments, with those that it takes.
-fn few_call<'a>(alloc: Global, head: Head, args: Gathered<'a>) -> Result<Expr<'a>, NoMemory>
-    requires kinds { OfKinds (signature head).first (signature head).further (gathered args) }
-    requires few { is_few head ≡ true }
-    ensures { IfOk result (λ e. tree_of e ≡ Call head (held (gathered args.entry))) }
-{
-    match head {
-        Head::Const => {
-            let (level, n) = args.numbers();
-            Ok(Expr::Const(level, n))
-        }
-        Head::One(word) => Ok(Expr::One(word, Box::new(alloc, args.expr())?)),
-        Head::Restrict => {
-            let (e, var, bit) = args.expr_var_bit();
-            Ok(Expr::Restrict(Box::new(alloc, e)?, var, bit))
-        }
-        Head::Compose => {
-            let (e, var, f) = args.expr_var_expr();
-            Ok(Expr::Compose(Box::new(alloc, e)?, var, Box::new(alloc, f)?))
-        }
-        _ => unreachable!(),
-    }
-}
-
-/// The call of a head over variables, with the arguments that it takes.
-#[tactic(auto, using(crate::proofs::OverFacts::held_variables))]
-fn over_call<'a>(alloc: Global, head: Head, args: Over<'a>) -> Result<Expr<'a>, NoMemory>
-    requires kinds { OfKinds (signature head).first (signature head).further (over args) }
-    requires variables { is_over head ≡ true }
-    ensures { IfOk result (λ e. tree_of e ≡ Call head (held (over args.entry))) }
-{
-    match head {
-        Head::Exists => {
-            let (e, vars) = args.expr_vars();
-            Ok(Expr::Exists(Box::new(alloc, e)?, vars))
-        }
-        Head::Forall => {
-            let (e, vars) = args.expr_vars();
-            Ok(Expr::Forall(Box::new(alloc, e)?, vars))
-        }
-        Head::SumOut => {
-            let (e, vars) = args.expr_vars();
-            Ok(Expr::SumOut(Box::new(alloc, e)?, vars))
-        }
-        Head::AndExists => {
-            let (e, f, vars) = args.two_exprs_vars();
-            Ok(Expr::AndExists(Box::new(alloc, e)?, Box::new(alloc, f)?, vars))
-        }
-        _ => unreachable!(),
     }
 }
 

@@ -2,6 +2,7 @@
 #![tactic(auto)]
 
 pub(crate) mod arguments;
+pub(crate) mod calls;
 pub(crate) mod expressions;
 pub mod faults;
 pub(crate) mod numbers;

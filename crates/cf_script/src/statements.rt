@@ -122,6 +122,7 @@ fn keyword_of(word: &[u8]) -> Option<Keyword>
         b"value" => Some(Keyword::Value),
         b"first" => Some(Keyword::First),
         b"list" => Some(Keyword::List),
+        b"entry" => Some(Keyword::Entry),
         b"equal" => Some(Keyword::Equal),
         b"size" => Some(Keyword::Size),
         b"stats" => Some(Keyword::Stats),
@@ -145,6 +146,7 @@ fn read_statement<'a>(
         Keyword::Value => read_value(text),
         Keyword::First => read_first(text),
         Keyword::List => read_list(text),
+        Keyword::Entry => read_entry(text),
         Keyword::Equal => read_equal(text),
         Keyword::Size => read_size(text),
         Keyword::Stats => read_stats(text),
@@ -246,8 +248,10 @@ fn read_let<'a>(alloc: Global, text: &'a [u8]) -> Result<Statement<'a>, ScriptFa
     match read_expr(alloc, text) {
         Ok((e, rest)) => {
             if !has_ended(rest) {
+                drop(e);
                 Err(ScriptFault::Malformed)
             } else if has_wide_number(text) {
+                drop(e);
                 Err(ScriptFault::WideNumber)
             } else {
                 Ok(Statement::Let(name, e))
@@ -369,6 +373,28 @@ fn read_list(text: &[u8]) -> Result<Statement<'_>, ScriptFault>
     };
     match value.zip(most) {
         Some((value, most)) => Ok(Statement::List(name, value, most)),
+        None => Err(ScriptFault::WideNumber),
+    }
+}
+
+/// `entry NAME ROW COL`
+fn read_entry(text: &[u8]) -> Result<Statement<'_>, ScriptFault>
+    ensures { Answers Keyword.Entry text.now (words text.now) result }
+{
+    let Some((name, row, column)) = three_words(text) else {
+        return Err(ScriptFault::Malformed);
+    };
+    if !is_name(name) {
+        return Err(ScriptFault::Malformed);
+    }
+    let Some(row) = natural(row) else {
+        return Err(ScriptFault::Malformed);
+    };
+    let Some(column) = natural(column) else {
+        return Err(ScriptFault::Malformed);
+    };
+    match row.zip(column) {
+        Some((row, column)) => Ok(Statement::Entry(name, row, column)),
         None => Err(ScriptFault::WideNumber),
     }
 }

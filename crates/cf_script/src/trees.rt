@@ -36,6 +36,18 @@ pub enum Expr<'a> {
     Compose(Box<Expr<'a>>, Var<'a>, Box<Expr<'a>>),
     /// Whether some setting of the variables' bits makes both expressions nonzero.
     AndExists(Box<Expr<'a>>, Box<Expr<'a>>, Vars<'a>),
+    /// The Kronecker product of two matrices.
+    Kron(Box<Expr<'a>>, Box<Expr<'a>>),
+    /// The product of two matrices.
+    Matmul(Box<Expr<'a>>, Box<Expr<'a>>),
+    /// The matrix with its rows and columns exchanged.
+    Transpose(Box<Expr<'a>>),
+    /// `id(J)`: the identity matrix of the level J.
+    Id(i128),
+    /// `walsh(J)`: the Walsh matrix of the level J.
+    Walsh(i128),
+    /// `unit(J, R, C)`: the matrix of the level J that is 1 in row R and column C, and 0 elsewhere.
+    Unit(i128, i128, i128),
 }
 
 /// A variable.
@@ -192,6 +204,8 @@ pub enum Statement<'a> {
     First(&'a [u8], i128),
     /// `list NAME NUMBER MAX`
     List(&'a [u8], i128, i128),
+    /// `entry NAME ROW COL`
+    Entry(&'a [u8], i128, i128),
     /// `equal NAME NAME`
     Equal(&'a [u8], &'a [u8]),
     /// `size NAME`

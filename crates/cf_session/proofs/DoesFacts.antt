@@ -160,6 +160,7 @@ reads-none (line.Load prefix file) other = absurd (other prefix file refl)
 reads-none (line.Value name bits) other = refl
 reads-none (line.First name v) other = refl
 reads-none (line.List name v most) other = refl
+reads-none (line.Entry name row col) other = refl
 reads-none (line.Equal name other_name) other = refl
 reads-none (line.Size name) other = refl
 reads-none line.Stats other = refl

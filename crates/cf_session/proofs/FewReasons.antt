@@ -1,6 +1,6 @@
 -- A statement that reads no file isn't refused for one.
-use Rattle.std.proofs.Common.{ℕ, ◌≡◌, ◌≤◌, ◌^◌, cond, Bool, true, false, List, [], ◌∷◌, ◌++◌, length, sym, subst, arith, Option, Some, None}
-use Rattle.std.specs.Prelude.{is_some, is_none, not, nat_le, nat_lt, nat_abs, ◌==◌}
+use Rattle.std.proofs.Common.{ℕ, ℤ, ◌≡◌, ◌≤◌, ◌^◌, cond, Bool, true, false, List, [], ◌∷◌, ◌++◌, length, sym, subst, arith, Option, Some, None}
+use Rattle.std.specs.Prelude.{is_some, is_none, not, nat_le, nat_lt, nat_abs, ◌==◌, ◌&&◌}
 use Rattle.cf_reference.specs.Replies.{value_reply}
 use Rattle.cf_reference.specs.Answers.{spelled, first_answer, list_answer, equal_answer, size_answer, stats_answer}
 use Rattle.std.specs.List.{list_all}
@@ -8,13 +8,15 @@ use Rattle.std.specs.Option.{option_map, option_or}
 use Rattle.std.proofs.lemmas.Bool.{false≢true}
 use Rattle.cf_model.specs.FlatFunctions.{FlatFunction}
 use Rattle.cf_reference.specs.declared.grammar.Head.{Head}
-use Rattle.cf_reference.specs.Trees.{Tree, Num, At, Named, Call, Arguments, none, more, atom, Atom, Variable, Position, Number, Statement, Empty, Level, Vars, Let, Load, Value, First, Listed, Equal, Size, Stats}
+use Rattle.cf_reference.specs.Trees.{Tree, Num, At, Named, Call, Arguments, none, more, atom, Atom, Variable, Position, Number, Statement, Empty, Level, Vars, Let, Load, Value, First, Listed, Entry, Equal, Size, Stats}
 use Rattle.cf_reference.specs.Reasons.{Refusal, NoLevel, LevelAgain, NoName, Taken, TooManyVariables, LevelsDiffer, BadLevel, OutOfRange, Overflow, FileTooLarge, Circuit, Links, number, unless, where_holds}
 use Rattle.cf_reference.specs.States.{State, Files, level_in, is_among, is_bound, is_below, bind, at, named}
-use Rattle.cf_reference.specs.Calls.{Meant, levels, positions, common, are_equal, exact, call_refusal}
+use Rattle.cf_reference.specs.Calls.{Meant, levels, positions, common, are_equal, exact, is_index, has_level, own_rule, call_refusal}
+use Rattle.cf_reference.specs.Calls as means
+use Rattle.cf_reference.specs.declared.grammar.Head.TheVariants.{Const, One, Fold, Ite, Restrict, Exists, Forall, SumOut, Compose, AndExists, Kron, Matmul, Transpose, Id, Walsh, Unit as UnitAt}
 use Rattle.cf_reference.specs.Expressions.{walk, walks, walk_atom, meant}
 use Rattle.cf_reference.specs.Failures.{over}
-use Rattle.cf_reference.specs.Carrying.{Outcome, Refuses, Goes, unless_refused, with_function, needs_level, asks, clashes, have_room, lists, function_from, set_level, declare, define, tell_value, tell_first, tell_list, tell_equal, tell_size, tell_stats, load_bytes, step}
+use Rattle.cf_reference.specs.Carrying.{Outcome, Refuses, Goes, unless_refused, with_function, needs_level, asks, clashes, have_room, lists, function_from, set_level, declare, define, tell_value, tell_first, tell_list, tell_entry, entry_in, tell_equal, tell_size, tell_stats, load_bytes, step}
 use Rattle.cf_reference.specs.Loading.{file_limit, with_input, input_refusal, inputs_refusal, outputs_clash, declared_for, with_circuit}
 use Rattle.cf_circuits.specs.declared.faults.LinkFault.{LinkFault}
 use Rattle.cf_circuits.specs.Causes.{Fault, fault}
@@ -56,13 +58,43 @@ refused_plain [] outcome p q = q
 refused_plain (None ∷ os) outcome p q = refused_plain os outcome p.1 q
 refused_plain (Some r ∷ os) outcome p q = p.0
 
+own_plain : (head : Head) (args : List Meant) → IsPlain (own_rule head args)
+own_plain Const args = tt
+own_plain (One word) args = tt
+own_plain (Fold word) args = tt
+own_plain Ite args = tt
+own_plain Restrict args = tt
+own_plain Exists args = tt
+own_plain Forall args = tt
+own_plain SumOut args = tt
+own_plain Compose args = tt
+own_plain AndExists args = tt
+own_plain Kron args = tt
+own_plain Matmul args = tt
+own_plain Transpose args = tt
+own_plain Id args = tt
+own_plain Walsh args = tt
+own_plain UnitAt [] = tt
+own_plain UnitAt (means.Function f ∷ args) = tt
+own_plain UnitAt (means.Position i ∷ args) = tt
+own_plain UnitAt (means.Number j ∷ []) = tt
+own_plain UnitAt (means.Number j ∷ means.Function f ∷ args) = tt
+own_plain UnitAt (means.Number j ∷ means.Position i ∷ args) = tt
+own_plain UnitAt (means.Number j ∷ means.Number n ∷ []) = tt
+own_plain UnitAt (means.Number j ∷ means.Number n ∷ means.Function f ∷ args) = tt
+own_plain UnitAt (means.Number j ∷ means.Number n ∷ means.Position i ∷ args) = tt
+own_plain UnitAt (means.Number j ∷ means.Number n ∷ means.Number m ∷ a ∷ args) = tt
+own_plain UnitAt (means.Number j ∷ means.Number n ∷ means.Number m ∷ []) = unless_plain (is_index (nat_abs j) n && is_index (nat_abs j) m) OutOfRange (omega arith)
+
 call_plain : (head : Head) (args : List Meant) → IsPlain (call_refusal head args)
 call_plain head args =
     let equal = are_equal (levels args) in
     let inside = list_all (λ i. is_below i (2 ^ common (levels args))) (positions args) in
-    let low = nat_le (exact head args).level 7 in
-    or_plain (unless equal LevelsDiffer) (option_or (unless inside OutOfRange) (unless low BadLevel)) (unless_plain equal LevelsDiffer (omega arith))
-    (or_plain (unless inside OutOfRange) (unless low BadLevel) (unless_plain inside OutOfRange (omega arith)) (unless_plain low BadLevel (omega arith)))
+    let ranged = has_level head (exact head args).level in
+    let last = option_or (unless ranged BadLevel) (own_rule head args) in
+    or_plain (unless equal LevelsDiffer) (option_or (unless inside OutOfRange) last) (unless_plain equal LevelsDiffer (omega arith))
+    (or_plain (unless inside OutOfRange) last (unless_plain inside OutOfRange (omega arith))
+    (or_plain (unless ranged BadLevel) (own_rule head args) (unless_plain ranged BadLevel (omega arith)) (own_plain head args)))
 
 atom_plain : (s : State) (a : Atom) → IsPlain (walk_atom s a)
 atom_plain s (Variable name) = unless_plain (is_among s.variables name) NoName (omega arith)
@@ -103,8 +135,23 @@ asks_plain : (s : State) (name : List ℕ) (answer : FlatFunction → Outcome) �
 asks_plain s name answer h =
     refused_plain (needs_level s ∷ []) (with_function (named s name) answer) (level_plain s, tt) (with_plain (named s name) answer h)
 
+-- the refusals of an entry, of a function that is there
+abbrev entry_refusals : FlatFunction → ℤ → ℤ → List (Option Refusal)
+entry_refusals f row col =
+    where_holds (f.level == 0) BadLevel
+    ∷ where_holds (not (is_index f.level row && is_index f.level col)) OutOfRange
+    ∷ []
+
+entry_plain : (s : State) (f : FlatFunction) (row col : ℤ) (text : List ℕ)
+    → GoesPlain (unless_refused (entry_refusals f row col) (Goes s text))
+entry_plain s f row col text =
+    let outside = not (is_index f.level row && is_index f.level col) in
+    refused_plain (entry_refusals f row col) (Goes s text)
+    (holds_plain (f.level == 0) BadLevel (omega arith), (holds_plain outside OutOfRange (omega arith), tt))
+    tt
+
 step_plain : (files : Files) (s : State) (t : Statement) → reads_file t ≡ false → GoesPlain (step files s t)
-unfolding set_level declare define tell_value tell_first tell_list tell_equal tell_size tell_stats
+unfolding set_level declare define tell_value tell_first tell_list tell_entry tell_equal tell_size tell_stats
 step_plain files s Empty h = tt
 step_plain files s (Level n) h =
     refused_plain (where_holds (is_some s.level) LevelAgain ∷ where_holds (not (is_below n 8)) BadLevel ∷ [])
@@ -130,6 +177,8 @@ step_plain files s (Listed name n most) h =
     asks_plain s name
     (λ f. unless_refused (where_holds (not (lists most)) OutOfRange ∷ []) (Goes s (list_answer f n (nat_abs most))))
     (λ f. refused_plain (where_holds (not (lists most)) OutOfRange ∷ []) (Goes s (list_answer f n (nat_abs most))) (holds_plain (not (lists most)) OutOfRange (omega arith), tt) tt)
+step_plain files s (Entry name row col) h =
+    asks_plain s name _ (λ f. entry_plain s f row col (value_reply (entry_in f (nat_abs row) (nat_abs col))))
 step_plain files s (Equal name other) h =
     asks_plain s name
     (λ f. with_function (named s other) (λ g. unless_refused (where_holds (not (f.level == g.level)) LevelsDiffer ∷ []) (Goes s (equal_answer f g))))

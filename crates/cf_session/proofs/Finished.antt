@@ -21,9 +21,8 @@ use Rattle.cf_pkg.proofs.Valued.{Keeps-same}
 use Rattle.cf_restrict.specs.Quantified.{some_value, IsQuantified, AreQuantified, IsComposed, IsJoined}
 use Rattle.cf_restrict.proofs.QuantLaws.{over_all-same, some_is, some_same, values_as, value_is, Halved, halves_applied, halves_chosen}
 use Rattle.cf_reference.specs.declared.grammar.Head.{Head}
-use Rattle.cf_reference.specs.Reasons.{LevelsDiffer, BadLevel, OutOfRange, unless}
 use Rattle.cf_reference.specs.States.{is_below}
-use Rattle.cf_reference.specs.Calls.{Meant, levels, positions, exact, call_refusal}
+use Rattle.cf_reference.specs.Calls.{Meant, levels, positions, exact, least, own_rule, call_refusal}
 use Rattle.cf_reference.specs.Calls as means
 use Rattle.cf_reference.proofs.TestFacts.{is_le}
 use Rattle.cf_reference.proofs.ValueLaws.{has_value}
@@ -32,6 +31,7 @@ use Rattle.cf_session.specs.declared.values.Value.TheVariants.{Function, Positio
 use Rattle.cf_session.specs.Values.{meanings, places_of, AreOf}
 use Rattle.cf_reference.specs.declared.grammar.Kind.TheVariants.{Variable as AVariable}
 use Rattle.cf_session.proofs.Jobs.{at-value}
+use Rattle.cf_session.proofs.Rules.{level_here, rules_go}
 
 -- What a package says of each of its functions and of each finished job.
 pub record Lawful (p : Package) : Type 0 where
@@ -155,16 +155,12 @@ joined_over p law f g i more r q =
     }
 
 -- the rules of a call over variables
-pub low_goes : (l : ℕ) → l ≤ 7 → unless (nat_le l 7) BadLevel ≡ None
-low_goes l low = ap (λ b. unless b BadLevel) (is_le l 7 low)
-
-pub over_goes : (head : Head) (f : FlatFunction) (later : List Meant) → (exact head (means.Function f ∷ later)).level ≡ f.level → list_all (λ other. other == f.level) (levels later) ≡ true
-    → list_all (λ i. is_below i (2 ^ f.level)) (positions later) ≡ true → f.level ≤ 7 → call_refusal head (means.Function f ∷ later) ≡ None
-over_goes head f later is equal inside low =
-    let l = (exact head (means.Function f ∷ later)).level in
-    ap (λ b. option_or (unless b LevelsDiffer) (option_or (unless (list_all (λ i. is_below i (2 ^ f.level)) (positions later)) OutOfRange) (unless (nat_le l 7) BadLevel))) equal
-    ∙ ap (λ b. option_or (unless b OutOfRange) (unless (nat_le l 7) BadLevel)) inside
-    ∙ ap (λ k. unless (nat_le k 7) BadLevel) is ∙ low_goes f.level low
+pub over_goes : (head : Head) (f : FlatFunction) (later : List Meant) → (exact head (means.Function f ∷ later)).level ≡ f.level → least head ≡ 0 → own_rule head (means.Function f ∷ later) ≡ None
+    → list_all (λ other. other == f.level) (levels later) ≡ true → list_all (λ i. is_below i (2 ^ f.level)) (positions later) ≡ true → f.level ≤ 7
+    → call_refusal head (means.Function f ∷ later) ≡ None
+over_goes head f later is none own equal inside low =
+    rules_go head (means.Function f ∷ later) equal inside
+    (level_here head (exact head (means.Function f ∷ later)).level f.level is (omega (arith, none)) low) own
 
 pub below : (i : ℤ) (n : ℕ) → pos 0 ≤ℤ i → nat_abs i < n → is_below i n ≡ true
 below (pos m) n low h = grind (arith, nat_tests)

@@ -5,7 +5,7 @@ use Rattle.std.specs.Option.{option_or}
 use Rattle.std.proofs.lemmas.Bool.{false≢true}
 use Rattle.cf_model.specs.declared.terms.Word2.{Word2}
 use Rattle.cf_reference.specs.declared.grammar.Head.{Head}
-use Rattle.cf_reference.specs.declared.grammar.Head.TheVariants.{Const, One, Fold, Ite, Restrict, Exists, Forall, SumOut, Compose, AndExists}
+use Rattle.cf_reference.specs.declared.grammar.Head.TheVariants.{Const, One, Fold, Ite, Restrict, Exists, Forall, SumOut, Compose, AndExists, Kron, Matmul, Transpose, Id, Walsh, Unit as UnitAt}
 use Rattle.cf_reference.specs.declared.grammar.Kind.TheVariants.{Expression as AnExpression}
 use Rattle.cf_reference.specs.Heads.{kind_at}
 use Rattle.cf_reference.specs.Calls.{Meant, call, is_nested}
@@ -27,6 +27,12 @@ fold_of Forall n = absurd (false≢true n)
 fold_of SumOut n = absurd (false≢true n)
 fold_of Compose n = absurd (false≢true n)
 fold_of AndExists n = absurd (false≢true n)
+fold_of Kron n = absurd (false≢true n)
+fold_of Matmul n = absurd (false≢true n)
+fold_of Transpose n = absurd (false≢true n)
+fold_of Id n = absurd (false≢true n)
+fold_of Walsh n = absurd (false≢true n)
+fold_of UnitAt n = absurd (false≢true n)
 
 pub fold_nests : (head : Head) → is_fold head ≡ true → is_nested head ≡ true
 fold_nests head n = ap is_nested (fold_of head n).1
@@ -105,3 +111,9 @@ none_yet SumOut n (m ∷ done) zero long e = absurd (omega (arith, long))
 none_yet SumOut n (m ∷ done) (suc place) long e = absurd (no_variable place e)
 none_yet Compose n done place long e = none_of Compose refl done
 none_yet AndExists n done place long e = none_of AndExists refl done
+none_yet Kron n done place long e = none_of Kron refl done
+none_yet Matmul n done place long e = none_of Matmul refl done
+none_yet Transpose n done place long e = none_of Transpose refl done
+none_yet Id n done place long e = none_of Id refl done
+none_yet Walsh n done place long e = none_of Walsh refl done
+none_yet UnitAt n done place long e = none_of UnitAt refl done

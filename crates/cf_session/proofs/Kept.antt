@@ -9,7 +9,7 @@ use Rattle.cf_pkg.specs.Tasks as task
 use Rattle.cf_pkg.specs.Packages.{Package, IsRemembered, Keeps}
 use Rattle.cf_pkg.specs.Jobs.{AnswersFinished}
 use Rattle.cf_reference.specs.declared.grammar.Head.{Head}
-use Rattle.cf_reference.specs.declared.grammar.Head.TheVariants.{Const, One, Fold, Ite, Restrict, Exists, Forall, SumOut, Compose, AndExists}
+use Rattle.cf_reference.specs.declared.grammar.Head.TheVariants.{Const, One, Fold, Ite, Restrict, Exists, Forall, SumOut, Compose, AndExists, Kron, Matmul, Transpose, Id, Walsh, Unit as UnitAt}
 use Rattle.cf_reference.specs.Trees.{Tree, Num, At, Named, Call, Arguments, none, more, atom, Atom}
 use Rattle.cf_reference.specs.Calls as means
 use Rattle.cf_reference.specs.States.{State, level_in, named}
@@ -81,6 +81,12 @@ job_on p q k AndExists args r h =
     let s = joined_shape p args r h in
     subst (λ (l : List Value). IsJobKept q AndExists l r) (sym (s.2 ∙ ap (λ l. Function s.0 ∷ l) s.3.are))
     (joined_on p q k s.0 s.3.f (nat_abs s.3.i ∷ places_of s.3.vars) r s.4)
+job_on p q k Kron args r h = (h.0, h.1, k.jobs h.0 r h.2)
+job_on p q k Matmul args r h = (h.0, h.1, k.jobs h.0 r h.2)
+job_on p q k Transpose args r h = (h.0, h.1, k.jobs h.0 r h.2)
+job_on p q k Id args r h = (h.0, h.1, k.jobs h.0 r h.2)
+job_on p q k Walsh args r h = (h.0, h.1, k.jobs h.0 r h.2)
+job_on p q k UnitAt args r h = (h.0, h.1, k.jobs h.0 r h.2)
 
 pub steps_on : (p q : Package) → Keeps p q → (head : Head) (f : Func) (args : List Value) (r : Func) → AreStepsKept p head f args r → AreStepsKept q head f args r
 steps_on p q k head f [] r h = h
@@ -100,6 +106,12 @@ call_on p q k Forall args r h = job_on p q k Forall args r h
 call_on p q k SumOut args r h = job_on p q k SumOut args r h
 call_on p q k Compose args r h = job_on p q k Compose args r h
 call_on p q k AndExists args r h = job_on p q k AndExists args r h
+call_on p q k Kron args r h = job_on p q k Kron args r h
+call_on p q k Matmul args r h = job_on p q k Matmul args r h
+call_on p q k Transpose args r h = job_on p q k Transpose args r h
+call_on p q k Id args r h = job_on p q k Id args r h
+call_on p q k Walsh args r h = job_on p q k Walsh args r h
+call_on p q k UnitAt args r h = job_on p q k UnitAt args r h
 
 -- expressions
 stands_on : (h k : Held) → Grows h k → (name : List ℕ) (f : Func) → StandsFor h name f → StandsFor k name f

@@ -4,7 +4,7 @@ use Rattle.std.proofs.lemmas.Bool.{false≢true}
 use Rattle.cf_model.specs.declared.terms.Word2.{Word2}
 use Rattle.cf_pkg.specs.declared.Func.{Func}
 use Rattle.cf_reference.specs.declared.grammar.Head.{Head}
-use Rattle.cf_reference.specs.declared.grammar.Head.TheVariants.{Const, One, Fold, Ite, Restrict, Exists, Forall, SumOut, Compose, AndExists}
+use Rattle.cf_reference.specs.declared.grammar.Head.TheVariants.{Const, One, Fold, Ite, Restrict, Exists, Forall, SumOut, Compose, AndExists, Kron, Matmul, Transpose, Id, Walsh, Unit as UnitAt}
 use Rattle.cf_reference.specs.Trees.{Tree, Call, Arguments, none, more, atom, Atom, count}
 use Rattle.cf_session.proofs.HeadFacts.{fold_of}
 use Rattle.cf_session.specs.declared.faults.StepFault.{StepFault}
@@ -39,6 +39,12 @@ one_job h Forall all r n k = k
 one_job h SumOut all r n k = k
 one_job h Compose all r n k = k
 one_job h AndExists all r n k = k
+one_job h Kron all r n k = k
+one_job h Matmul all r n k = k
+one_job h Transpose all r n k = k
+one_job h Id all r n k = k
+one_job h Walsh all r n k = k
+one_job h UnitAt all r n k = k
 
 one_call : (h : Held) (head : Head) (all : Arguments) (args : List Value) (r : Func) → is_fold head ≡ false → AreKept h all args → IsJobKept h.pkg head args r
     → IsKept h (Call head all) r
@@ -52,6 +58,12 @@ one_call h Forall all args r n k j = (args, k, j)
 one_call h SumOut all args r n k j = (args, k, j)
 one_call h Compose all args r n k j = (args, k, j)
 one_call h AndExists all args r n k j = (args, k, j)
+one_call h Kron all args r n k j = (args, k, j)
+one_call h Matmul all args r n k j = (args, k, j)
+one_call h Transpose all args r n k j = (args, k, j)
+one_call h Id all args r n k j = (args, k, j)
+one_call h Walsh all args r n k j = (args, k, j)
+one_call h UnitAt all args r n k j = (args, k, j)
 
 pub front_none : (start : Held) (head : Head) (all : Arguments) (args : List Value) → args ≡ [] → is_fold head ≡ false → KeptFront start start head all args 0
 front_none start head all args e n =

@@ -5,10 +5,13 @@ pub mod Shapes
 pub mod Growth
 pub mod Built
 pub mod Walked
+pub mod Rules
 pub mod HeadFacts
 pub mod VariableLaws
 pub mod SumSteps
 pub mod Jobs
+pub mod MatrixLaws
+pub mod ProductFaults
 pub mod Gathering
 pub mod Leaves
 pub mod Nesting
@@ -26,6 +29,7 @@ pub mod KeepingExamples
 pub mod ListFacts
 pub mod StatementFacts
 pub mod AnswerFacts
+pub mod EntryFacts
 pub mod StepFacts
 pub mod InputFacts
 pub mod OutputFacts

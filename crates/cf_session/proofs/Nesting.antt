@@ -16,10 +16,10 @@ use Rattle.cf_reference.specs.declared.grammar.Head.{Head}
 use Rattle.cf_reference.specs.declared.grammar.Head.TheVariants.{Fold}
 use Rattle.cf_reference.specs.Heads.{signature}
 use Rattle.cf_reference.specs.Trees.{Tree, Call, Arguments, none, more, atom, AreFormed, IsFormed}
-use Rattle.cf_reference.specs.Reasons.{LevelsDiffer, BadLevel, OutOfRange, unless}
 use Rattle.cf_reference.specs.States.{State, at}
-use Rattle.cf_reference.specs.Calls.{Part, flat, Meant, Function, levels, exact, call, call_refusal, is_nested}
+use Rattle.cf_reference.specs.Calls.{Part, flat, Meant, Function, levels, exact, least, own_rule, call, call_refusal, is_nested}
 use Rattle.cf_session.specs.Arguments.{is_fold}
+use Rattle.cf_session.proofs.Rules.{level_here, rules_go}
 use Rattle.cf_session.proofs.HeadFacts.{fold_of, fold_nests, pair_parts}
 use Rattle.cf_reference.specs.Expressions.{part, level, meant, walk, walks}
 use Rattle.cf_reference.specs.Failures.{failure, first_failure, fold_step, over, over_arguments}
@@ -111,9 +111,11 @@ pair_kinds head n f g =
 
 pub pair_ruled : (head : Head) → is_fold head ≡ true → (f g : FlatFunction) → g.level ≡ f.level → f.level ≤ 7 → call_refusal head (Function f ∷ Function g ∷ []) ≡ None
 pair_ruled head n f g same low =
-    ap (λ b. option_or (unless (b && true) LevelsDiffer) (option_or (unless true OutOfRange) (unless (nat_le (exact head (Function f ∷ Function g ∷ [])).level 7) BadLevel)))
-    (is_same g.level f.level same)
-    ∙ ap (λ b. unless b BadLevel) (ap (λ k. nat_le k 7) (first_level head n f (Function g ∷ [])) ∙ is_le f.level 7 low)
+    let args = Function f ∷ Function g ∷ [] in
+    let word = fold_of head n in
+    let none : least head ≡ 0 = ap least word.1 in
+    rules_go head args (ap (λ b. b && true) (is_same g.level f.level same)) refl
+    (level_here head (exact head args).level f.level (first_level head n f (Function g ∷ [])) (omega (arith, none)) low) (ap (λ d. own_rule d args) word.1)
 
 -- where nested calls overflow, behind the arguments that are done
 abbrev over_left : State → Head → Arguments → List Meant → Arguments → Option (List Bool)

@@ -1,5 +1,5 @@
 -- A kept expression isn't refused, and its function is built.
-use Rattle.std.proofs.Common.{ℕ, ℤ, suc, pos, ◌≡◌, ◌≤◌, ◌<◌, ◌≤ℤ◌, ◌^◌, ◌==◌, ◌&&◌, true, List, [], ◌∷◌, ◌++◌, Some, None, Ok, refl, sym, ap, subst, ◌∙◌, arith}
+use Rattle.std.proofs.Common.{ℕ, ℤ, suc, pos, ◌≡◌, ◌≤◌, ◌<◌, ◌≤ℤ◌, ◌+◌, ◌-◌, ◌^◌, ◌==◌, ◌&&◌, true, List, [], ◌∷◌, ◌++◌, Some, None, Ok, refl, sym, ap, subst, ◌∙◌, arith}
 use Rattle.std.proofs.lemmas.Int.{ints}
 use Rattle.std.specs.Prelude.{nat_abs, nat_le, is_some, unwrap_or, All}
 use Rattle.std.specs.List.{list_all}
@@ -16,7 +16,7 @@ use Rattle.cf_pkg.specs.Tasks as task
 use Rattle.cf_pkg.specs.Packages.{Package, IsRemembered, OwnsFunction, meaning}
 use Rattle.cf_pkg.specs.Jobs.{Finishes, task_value, value_in}
 use Rattle.cf_reference.specs.declared.grammar.Head.{Head}
-use Rattle.cf_reference.specs.declared.grammar.Head.TheVariants.{Const, One, Fold, Ite, Restrict, Exists, Forall, SumOut, Compose, AndExists}
+use Rattle.cf_reference.specs.declared.grammar.Head.TheVariants.{Const, One, Fold, Ite, Restrict, Exists, Forall, SumOut, Compose, AndExists, Kron, Matmul, Transpose, Id, Walsh, Unit as UnitAt}
 use Rattle.cf_reference.specs.Trees.{Tree, Num, At, Named, Call, Arguments, none, more, atom, Atom, Variable, IsFormed, AreFormed, IsFormedAtom}
 use Rattle.cf_reference.specs.Trees as tree
 use Rattle.cf_reference.specs.Heads.{kind_at, signature}
@@ -24,7 +24,7 @@ use Rattle.cf_reference.specs.declared.grammar.Kind.{Kind}
 use Rattle.cf_reference.specs.declared.grammar.Kind.TheVariants.{Expression as AnExpression, Variable as AVariable, Natural as ANatural, Number as ANumber, Bit as ABit}
 use Rattle.cf_reference.specs.Reasons.{NoLevel, LevelsDiffer, BadLevel, OutOfRange, NoName, Overflow, unless}
 use Rattle.cf_reference.specs.States.{State, level_in, is_below, position_of}
-use Rattle.cf_reference.specs.Calls.{Part, Meant, call, call_refusal, levels, positions, exact, flat}
+use Rattle.cf_reference.specs.Calls.{Part, Meant, call, call_refusal, levels, positions, exact, least, own_rule, is_index, flat}
 use Rattle.cf_reference.specs.Calls as means
 use Rattle.cf_reference.specs.Carrying.{function_from}
 use Rattle.cf_reference.specs.Expressions.{part, meant, meant_atom, walk, walks, walk_atom}
@@ -45,8 +45,10 @@ use Rattle.cf_session.proofs.Gathering.{of_kinds}
 use Rattle.cf_session.proofs.Kept.{first_kept, none_kept}
 use Rattle.cf_session.proofs.Jobs.{job_calls, one_calls, fold_calls, choice_calls}
 use Rattle.cf_session.proofs.VariableLaws.{over_one, restrict_calls, exists_calls, forall_calls, sum_calls, compose_calls, joined_calls}
-use Rattle.cf_session.proofs.KeptShapes.{task_kept, restrict_shape, exists_shape, forall_shape, sum_shape, compose_shape, joined_shape}
-use Rattle.cf_session.proofs.Finished.{Lawful, AreFinished, quantified_over, composed_over, joined_over, low_goes, over_goes, below, AreNatural, both_true, all_below, no_levels, none_differ}
+use Rattle.cf_session.proofs.MatrixLaws.{kron_calls, matmul_calls, transpose_calls, id_calls, walsh_calls, unit_calls}
+use Rattle.cf_session.proofs.Rules.{level_there, rules_go}
+use Rattle.cf_session.proofs.KeptShapes.{task_kept, restrict_shape, exists_shape, forall_shape, sum_shape, compose_shape, joined_shape, kron_shape, matmul_shape, transpose_shape, id_shape, walsh_shape, unit_shape}
+use Rattle.cf_session.proofs.Finished.{Lawful, AreFinished, quantified_over, composed_over, joined_over, over_goes, below, AreNatural, both_true, all_below, no_levels, none_differ}
 use Rattle.cf_restrict.specs.Quantified.{some_value, AreQuantified, IsJoined, IsComposed}
 use Rattle.cf_restrict.proofs.QuantLaws.{values_as, some_is, every_is}
 use Rattle.cf_model.specs.Terms.{is_true}
@@ -67,9 +69,8 @@ told p law head args t r e j = law.finished t r (task_kept p head args t r e j)
 three_goes : (f g h : FlatFunction) → g.level ≡ f.level → h.level ≡ f.level → f.level ≤ 7
     → call_refusal Ite (means.Function f ∷ means.Function g ∷ means.Function h ∷ []) ≡ None
 three_goes f g h second third low =
-    ap (λ b. option_or (unless (b && ((h.level == f.level) && true)) LevelsDiffer) (unless (nat_le f.level 7) BadLevel)) (is_same g.level f.level second)
-    ∙ ap (λ b. option_or (unless (b && true) LevelsDiffer) (unless (nat_le f.level 7) BadLevel)) (is_same h.level f.level third)
-    ∙ low_goes f.level low
+    rules_go Ite (means.Function f ∷ means.Function g ∷ means.Function h ∷ [])
+    (both_true (g.level == f.level) _ (is_same g.level f.level second) (both_true (h.level == f.level) true (is_same h.level f.level third) refl)) refl (level_there Ite f.level (omega arith) low) refl
 
 -- a job that is remembered
 const_done : (p : Package) → Lawful p → (l n : ℤ) (r : Func) → IsJobKept p Const (Number l ∷ Number n ∷ []) r → Done p Const (Number l ∷ Number n ∷ []) r
@@ -78,7 +79,7 @@ const_done p law l n r j =
     let done = told p law Const args (task.Const (nat_abs l) n) r refl j in
     record {
       calls = job_calls Const (meanings p args) p r (nat_abs l) (task_value p (task.Const (nat_abs l) n)) done.values (law.flat r done.values.owned) refl (λ bits. refl) refl;
-      goes = low_goes (nat_abs l) done.in_order;
+      goes = rules_go Const (meanings p args) refl refl (level_there Const (nat_abs l) (omega arith) done.in_order) refl;
     }
 
 one_done : (p : Package) → Lawful p → (word : Word1) (f r : Func) → IsJobKept p (One word) (Function f ∷ []) r → Done p (One word) (Function f ∷ []) r
@@ -86,7 +87,7 @@ one_done p law word f r j =
     let done = told p law (One word) (Function f ∷ []) (task.Map (of_one word) f) r refl j in
     record {
       calls = one_calls word p p f r done.values (law.flat r done.values.owned);
-      goes = low_goes f.head.level (law.flat f done.in_order).level_in;
+      goes = rules_go (One word) (means.Function (meaning p f) ∷ []) refl refl (level_there (One word) f.head.level (omega arith) (law.flat f done.in_order).level_in) refl;
     }
 
 fold_done : (p : Package) → Lawful p → (word : Word2) (f g r : Func) → IsJobKept p (Fold word) (Function f ∷ Function g ∷ []) r → Done p (Fold word) (Function f ∷ Function g ∷ []) r
@@ -112,15 +113,15 @@ restrict_done p law f i n r low k =
     let done = law.finished (task.Restrict f (nat_abs i) (is_true n)) r k in
     record {
       calls = restrict_calls p p f r i n done.values (law.flat r done.values.owned);
-      goes = over_goes Restrict (meaning p f) (means.Position i ∷ means.Number n ∷ []) refl refl
+      goes = over_goes Restrict (meaning p f) (means.Position i ∷ means.Number n ∷ []) refl refl refl refl
           (both_true (is_below i (2 ^ f.head.level)) true (below i (2 ^ f.head.level) low done.in_order.1) refl) (law.flat f done.in_order.0).level_in;
     }
 
 -- the rules of a call of one function and variables
-variables_go : (p : Package) → Lawful p → (head : Head) (f : Func) (vs : List Value) → (exact head (over_one p f vs)).level ≡ f.head.level → OwnsFunction p f → AreNatural vs
+variables_go : (p : Package) → Lawful p → (head : Head) (f : Func) (vs : List Value) → (exact head (over_one p f vs)).level ≡ f.head.level → least head ≡ 0 → own_rule head (over_one p f vs) ≡ None → OwnsFunction p f → AreNatural vs
     → AreOf [] (Some AVariable) vs → All (λ i. i < 2 ^ f.head.level) (places_of vs) → call_refusal head (over_one p f vs) ≡ None
-variables_go p law head f vs is owned natural kinds within =
-    over_goes head (meaning p f) (meanings p vs) is (none_differ f.head.level (levels (meanings p vs)) (no_levels p vs kinds)) (all_below f.head.level p vs natural within)
+variables_go p law head f vs is least_is own owned natural kinds within =
+    over_goes head (meaning p f) (meanings p vs) is least_is own (none_differ f.head.level (levels (meanings p vs)) (no_levels p vs kinds)) (all_below f.head.level p vs natural within)
     (law.flat f owned).level_in
 
 exists_done : (p : Package) → Lawful p → (f : Func) (i : ℤ) (vars : List Value) (r : Func) → AreNatural (Position i ∷ vars) → AreOf [] (Some AVariable) (Position i ∷ vars)
@@ -132,7 +133,7 @@ exists_done p law f i vars r natural kinds k =
     (λ bits a. some_is (value_in p f) (places_of vs) (omega arith) bits) in
     record {
       calls = exists_calls p p f r vs values (law.flat r values.owned);
-      goes = variables_go p law Exists f vs refl done.owned natural kinds done.within;
+      goes = variables_go p law Exists f vs refl refl refl done.owned natural kinds done.within;
     }
 
 forall_done : (p : Package) → Lawful p → (f : Func) (i : ℤ) (vars : List Value) (r : Func) → AreNatural (Position i ∷ vars) → AreOf [] (Some AVariable) (Position i ∷ vars)
@@ -144,7 +145,7 @@ forall_done p law f i vars r natural kinds k =
     (λ bits a. every_is (value_in p f) (places_of vs) (omega arith) bits) in
     record {
       calls = forall_calls p p f r vs values (law.flat r values.owned);
-      goes = variables_go p law Forall f vs refl done.owned natural kinds done.within;
+      goes = variables_go p law Forall f vs refl refl refl done.owned natural kinds done.within;
     }
 
 sum_done : (p : Package) → Lawful p → (f : Func) (i : ℤ) (vars : List Value) (r : Func) → AreNatural (Position i ∷ vars) → AreOf [] (Some AVariable) (Position i ∷ vars)
@@ -154,7 +155,7 @@ sum_done p law f i vars r natural kinds k =
     let done = quantified_over p law Plus f (nat_abs i) (places_of vars) r k in
     record {
       calls = sum_calls p p f r vs (law.flat f done.owned) kinds done.values (law.flat r done.values.owned);
-      goes = variables_go p law SumOut f vs refl done.owned natural kinds done.within;
+      goes = variables_go p law SumOut f vs refl refl refl done.owned natural kinds done.within;
     }
 
 compose_done : (p : Package) → Lawful p → (f : Func) (i : ℤ) (g r : Func) → pos 0 ≤ℤ i → IsComposed p f (nat_abs i) g r → Done p Compose (Function f ∷ Position i ∷ Function g ∷ []) r
@@ -162,7 +163,7 @@ compose_done p law f i g r low k =
     let done = composed_over p law f (nat_abs i) g r k in
     record {
       calls = compose_calls p p f g r i done.values (law.flat r done.values.owned);
-      goes = over_goes Compose (meaning p f) (means.Position i ∷ means.Function (meaning p g) ∷ []) refl (both_true (g.head.level == f.head.level) true (is_same g.head.level f.head.level done.level) refl)
+      goes = over_goes Compose (meaning p f) (means.Position i ∷ means.Function (meaning p g) ∷ []) refl refl refl (both_true (g.head.level == f.head.level) true (is_same g.head.level f.head.level done.level) refl)
           (both_true (is_below i (2 ^ f.head.level)) true (below i (2 ^ f.head.level) low done.within) refl) (law.flat f done.first).level_in;
     }
 
@@ -173,9 +174,63 @@ joined_done p law f g i vars r natural kinds k =
     let done = joined_over p law f g (nat_abs i) (places_of vars) r k in
     record {
       calls = joined_calls p p f g r vs done.values (law.flat r done.values.owned);
-      goes = over_goes AndExists (meaning p f) (means.Function (meaning p g) ∷ meanings p vs) refl
+      goes = over_goes AndExists (meaning p f) (means.Function (meaning p g) ∷ meanings p vs) refl refl refl
           (both_true (g.head.level == f.head.level) _ (is_same g.head.level f.head.level (sym done.level.level)) (none_differ f.head.level (levels (meanings p vs)) (no_levels p vs kinds)))
           (all_below f.head.level p vs natural done.within) (law.flat f done.level.first).level_in;
+    }
+
+-- matrices
+kron_done : (p : Package) → Lawful p → (f g r : Func) → IsRemembered p (task.Kron f g) r → Done p Kron (Function f ∷ Function g ∷ []) r
+kron_done p law f g r k =
+    let done = law.finished (task.Kron f g) r k in
+    record {
+      calls = kron_calls p p f g r done.values (law.flat r done.values.owned);
+      goes = rules_go Kron (means.Function (meaning p f) ∷ means.Function (meaning p g) ∷ []) (both_true (g.head.level == f.head.level) true (is_same g.head.level f.head.level (sym done.in_order.0.level)) refl) refl
+          (level_there Kron (f.head.level + 1) (omega arith) (omega (arith, done.in_order.1))) refl;
+    }
+
+matmul_done : (p : Package) → Lawful p → (f g r : Func) → IsRemembered p (task.Matmul f g) r → Done p Matmul (Function f ∷ Function g ∷ []) r
+matmul_done p law f g r k =
+    let done = law.finished (task.Matmul f g) r k in
+    record {
+      calls = matmul_calls p p f g r done.values (law.flat r done.values.owned);
+      goes = rules_go Matmul (means.Function (meaning p f) ∷ means.Function (meaning p g) ∷ []) (both_true (g.head.level == f.head.level) true (is_same g.head.level f.head.level (sym done.in_order.0.level)) refl) refl
+          (level_there Matmul f.head.level done.in_order.1 (law.flat f done.in_order.0.first).level_in) refl;
+    }
+
+transpose_done : (p : Package) → Lawful p → (f r : Func) → IsRemembered p (task.Transpose f) r → Done p Transpose (Function f ∷ []) r
+transpose_done p law f r k =
+    let done = law.finished (task.Transpose f) r k in
+    record {
+      calls = transpose_calls p p f r done.values (law.flat r done.values.owned);
+      goes = rules_go Transpose (means.Function (meaning p f) ∷ []) refl refl (level_there Transpose f.head.level done.in_order.1 (law.flat f done.in_order.0).level_in) refl;
+    }
+
+id_done : (p : Package) → Lawful p → (j : ℤ) (r : Func) → IsRemembered p (task.Id (nat_abs j)) r → Done p Id (Number j ∷ []) r
+id_done p law j r k =
+    let done = law.finished (task.Id (nat_abs j)) r k in
+    record {
+      calls = id_calls p r j done.values (law.flat r done.values.owned);
+      goes = rules_go Id (means.Number j ∷ []) refl refl (level_there Id (nat_abs j) done.in_order.0 done.in_order.1) refl;
+    }
+
+walsh_done : (p : Package) → Lawful p → (j : ℤ) (r : Func) → IsRemembered p (task.Walsh (nat_abs j)) r → Done p Walsh (Number j ∷ []) r
+walsh_done p law j r k =
+    let done = law.finished (task.Walsh (nat_abs j)) r k in
+    record {
+      calls = walsh_calls p r j done.values (law.flat r done.values.owned);
+      goes = rules_go Walsh (means.Number j ∷ []) refl refl (level_there Walsh (nat_abs j) done.in_order.0 done.in_order.1) refl;
+    }
+
+unit_done : (p : Package) → Lawful p → (j n m : ℤ) (r : Func) → pos 0 ≤ℤ n → pos 0 ≤ℤ m → IsRemembered p (task.UnitAt (nat_abs j) (nat_abs n) (nat_abs m)) r
+    → Done p UnitAt (Number j ∷ Number n ∷ Number m ∷ []) r
+unit_done p law j n m r row column k =
+    let done = law.finished (task.UnitAt (nat_abs j) (nat_abs n) (nat_abs m)) r k in
+    let size = 2 ^ (2 ^ (nat_abs j - 1)) in
+    record {
+      calls = unit_calls p r j n m done.values (law.flat r done.values.owned);
+      goes = rules_go UnitAt (means.Number j ∷ means.Number n ∷ means.Number m ∷ []) refl refl (level_there UnitAt (nat_abs j) done.in_order.0.0 done.in_order.0.1)
+          (ap (λ b. unless b OutOfRange) (both_true (is_below n size) (is_below m size) (below n size row done.in_order.1) (below m size column done.in_order.2)));
     }
 
 -- Arguments that aren't refused, and what they come to: an expression its function, which is built, and an atom what it means.
@@ -270,11 +325,7 @@ steps_level p law word f (Number n ∷ later) r k = absurd (none-some k.1.0 k.1.
 nested_goes : (word : Word2) (p : Package) (f : Func) (later : List Value) → OneLevel p f.head.level later → f.head.level ≤ 7
     → call_refusal (Fold word) (means.Function (meaning p f) ∷ meanings p later) ≡ None
 nested_goes word p f later one low =
-    let l = f.head.level in
-    let places = positions (meanings p later) in
-    ap (λ b. option_or (unless b LevelsDiffer) (option_or (unless (list_all (λ i. is_below i (2 ^ l)) places) OutOfRange) (unless (nat_le l 7) BadLevel))) one.equal
-    ∙ ap (λ ps. option_or (unless (list_all (λ i. is_below i (2 ^ l)) ps) OutOfRange) (unless (nat_le l 7) BadLevel)) one.functions
-    ∙ low_goes l low
+    over_goes (Fold word) (meaning p f) (meanings p later) refl refl refl one.equal (ap (list_all (λ i. is_below i (2 ^ f.head.level))) one.functions) low
 
 steps_built : (s : State) (p : Package) → Lawful p → (word : Word2) (all left : Arguments) (f : Func) (later : List Value) (r : Func) → Nesting s (Fold word) all p f left
     → AreBuilt s p left later → AreStepsKept p (Fold word) f later r → Builds s (Call (Fold word) all) p r
@@ -388,6 +439,31 @@ there s p head es args others is formed b =
           (subst (OfKinds (signature head).first (signature head).further) (come s p es others built).is_meant (of-formed s head es formed.0 formed.1));
     }
 
+-- rows and columns of formed arguments aren't negative
+abbrev number_in : Meant → ℤ → ℤ
+number_in (means.Number n) d = n
+number_in other d = d
+
+numbered_natural : (s : State) (a : Atom) (n : ℤ) → IsFormedAtom ANatural a → meant_atom s a ≡ means.Number n → pos 0 ≤ℤ n
+numbered_natural s (Variable name) n h e = absurd h
+numbered_natural s (tree.Position j) n h e = absurd h
+numbered_natural s (tree.Number m) n h e = subst (λ z. pos 0 ≤ℤ z) (ap (λ x. number_in x n) e) h.0
+
+second_natural : (s : State) (p : Package) (es : Arguments) (m : ℤ) (later : List Value) → AreFormed UnitAt 2 es → AreBuilt s p es (Number m ∷ later) → pos 0 ≤ℤ m
+second_natural s p none m later formed b = absurd b
+second_natural s p (more e es) m later formed b = absurd b
+second_natural s p (atom a es) m later formed b = numbered_natural s a m formed.0 b.0.1
+
+first_natural : (s : State) (p : Package) (es : Arguments) (n m : ℤ) (later : List Value) → AreFormed UnitAt 1 es → AreBuilt s p es (Number n ∷ Number m ∷ later) → (pos 0 ≤ℤ n) × (pos 0 ≤ℤ m)
+first_natural s p none n m later formed b = absurd b
+first_natural s p (more e es) n m later formed b = absurd b
+first_natural s p (atom a es) n m later formed b = (numbered_natural s a n formed.0 b.0.1, second_natural s p es m later formed.1 b.1)
+
+indices_natural : (s : State) (p : Package) (es : Arguments) (j n m : ℤ) → AreFormed UnitAt 0 es → AreBuilt s p es (Number j ∷ Number n ∷ Number m ∷ []) → (pos 0 ≤ℤ n) × (pos 0 ≤ℤ m)
+indices_natural s p none j n m formed b = absurd b
+indices_natural s p (more e es) j n m formed b = absurd b
+indices_natural s p (atom a es) j n m formed b = first_natural s p es n m [] formed.1 b.1
+
 -- a call of values
 call_there : (s : State) (p : Package) → Lawful p → (head : Head) (es : Arguments) (args : List Value) (r : Func) → IsFormed (Call head es) → AreBuilt s p es args
     → IsCallKept p head args r → IsBuilt s (Call head es) p r
@@ -450,6 +526,37 @@ call_there s p law AndExists es args r formed b k =
     let others = Function h.0 ∷ Function h.3.f ∷ Position h.3.i ∷ h.3.vars in
     let t = there s p AndExists es args others (h.2 ∙ ap (λ l. Function h.0 ∷ l) h.3.are) formed b in
     one_built s AndExists es p others r t.built (joined_done p law h.0 h.3.f h.3.i h.3.vars r t.natural (tt, t.kinds.1.1.1) h.4)
+call_there s p law Kron es args r formed b k =
+    let h = kron_shape p args r k in
+    let others = Function h.0 ∷ Function h.1 ∷ [] in
+    let t = there s p Kron es args others h.2 formed b in
+    one_built s Kron es p others r t.built (kron_done p law h.0 h.1 r h.3)
+call_there s p law Matmul es args r formed b k =
+    let h = matmul_shape p args r k in
+    let others = Function h.0 ∷ Function h.1 ∷ [] in
+    let t = there s p Matmul es args others h.2 formed b in
+    one_built s Matmul es p others r t.built (matmul_done p law h.0 h.1 r h.3)
+call_there s p law Transpose es args r formed b k =
+    let h = transpose_shape p args r k in
+    let others = Function h.0 ∷ [] in
+    let t = there s p Transpose es args others h.1 formed b in
+    one_built s Transpose es p others r t.built (transpose_done p law h.0 r h.2)
+call_there s p law Id es args r formed b k =
+    let h = id_shape p args r k in
+    let others = Number h.0 ∷ [] in
+    let t = there s p Id es args others h.1 formed b in
+    one_built s Id es p others r t.built (id_done p law h.0 r h.2)
+call_there s p law Walsh es args r formed b k =
+    let h = walsh_shape p args r k in
+    let others = Number h.0 ∷ [] in
+    let t = there s p Walsh es args others h.1 formed b in
+    one_built s Walsh es p others r t.built (walsh_done p law h.0 r h.2)
+call_there s p law UnitAt es args r formed b k =
+    let h = unit_shape p args r k in
+    let others = Number h.0 ∷ Number h.1 ∷ Number h.2 ∷ [] in
+    let t = there s p UnitAt es args others h.3 formed b in
+    let low = indices_natural s p es h.0 h.1 h.2 formed.1 t.built in
+    one_built s UnitAt es p others r t.built (unit_done p law h.0 h.1 h.2 r low.0 low.1 h.4)
 
 -- an atom that is a number isn't refused
 number_walked : (s : State) (a : Atom) (n : ℤ) → meant_atom s a ≡ means.Number n → walk_atom s a ≡ None
@@ -522,6 +629,12 @@ kept_owned (Call Compose es) h fin f k =
 kept_owned (Call AndExists es) h fin f k =
     let s = joined_shape h.pkg k.0 f k.2 in
     quantified_owned h.pkg fin Or s.4.product (nat_abs s.3.i) (places_of s.3.vars) f s.4.quantified
+kept_owned (Call Kron es) h fin f k = (fin k.2.0 f k.2.2).values.owned
+kept_owned (Call Matmul es) h fin f k = (fin k.2.0 f k.2.2).values.owned
+kept_owned (Call Transpose es) h fin f k = (fin k.2.0 f k.2.2).values.owned
+kept_owned (Call Id es) h fin f k = (fin k.2.0 f k.2.2).values.owned
+kept_owned (Call Walsh es) h fin f k = (fin k.2.0 f k.2.2).values.owned
+kept_owned (Call UnitAt es) h fin f k = (fin k.2.0 f k.2.2).values.owned
 
 -- Nothing refuses a kept expression.
 pub kept_goes : (h : Held) (e : Tree) → Lawful h.pkg → (f : Func) → is_some h.level ≡ true → IsFormed e → IsKept h e f → refusal_of (state_of h) e ≡ None

@@ -6,18 +6,19 @@ use Rattle.cf_model.specs.FlatFunctions.{FlatFunction}
 use Rattle.cf_model.specs.declared.terms.Word2.{Word2}
 use Rattle.cf_model.specs.declared.terms.Word2.TheVariants.{And, Or, Xor, Plus, Minus, Times, Min, Max, Eq, Lt}
 use Rattle.cf_reference.specs.declared.grammar.Head.{Head}
-use Rattle.cf_reference.specs.declared.grammar.Head.TheVariants.{Const, One, Fold, Ite, Restrict, Exists, Forall, SumOut, Compose, AndExists}
+use Rattle.cf_reference.specs.declared.grammar.Head.TheVariants.{Const, One, Fold, Ite, Restrict, Exists, Forall, SumOut, Compose, AndExists, Kron, Matmul, Transpose, Id, Walsh, Unit as UnitAt}
 use Rattle.cf_reference.specs.Heads.{signature, counted, takes, kind_in, kind_at}
 use Rattle.cf_reference.specs.declared.grammar.Kind.{Kind}
 use Rattle.cf_reference.specs.declared.grammar.Kind.TheVariants.{Expression as AnExpression, Variable as AVariable, Natural as ANatural, Number as ANumber, Bit as ABit}
 use Rattle.cf_reference.specs.Trees.{Arguments, none, more, atom, Atom, Variable, count, AreFormed, IsFormedAtom}
 use Rattle.cf_reference.specs.Trees as tree
-use Rattle.cf_reference.specs.Calls.{flat, Meant, Function, Position, Number}
+use Rattle.cf_reference.specs.Calls.{flat, Meant, Function, Position, Number, levels, exact, own_rule}
+use Rattle.cf_reference.specs.Reasons.{OutOfRange, unless}
 use Rattle.cf_reference.specs.States.{State}
 use Rattle.cf_reference.specs.Expressions.{part, meant, meant_atom}
 use Rattle.cf_reference.proofs.ExpressionLaws.{meant-none, meant-more, meant-atom}
 use Rattle.cf_session.specs.Arguments.{IsOf, OfKinds}
-use Rattle.cf_session.specs.Walks.{IsLevelled}
+use Rattle.cf_session.specs.Walks.{first_of, second_of, third_of, numbers, level_by, has_indices, IsLevelled}
 
 -- formed arguments mean what the signature says
 atom_kind : (s : State) (kind : Kind) (a : Atom) → IsFormedAtom kind a → IsOf kind (meant_atom s a)
@@ -161,18 +162,45 @@ first_of_fold Times args h = let a = first_function (AnExpression ∷ []) (Some 
 first_of_fold Min args h = let a = first_function (AnExpression ∷ []) (Some AnExpression) args h in (a.0, a.1, a.2)
 first_of_fold Max args h = let a = first_function (AnExpression ∷ []) (Some AnExpression) args h in (a.0, a.1, a.2)
 
--- the level of a call
+one_natural : (args : List Meant) → OfKinds (ANatural ∷ []) None args → (n : ℤ) × (args ≡ Number n ∷ [])
+one_natural [] h = absurd h
+one_natural (Function f ∷ later) h = absurd h.0
+one_natural (Position i ∷ later) h = absurd h.0
+one_natural (Number n ∷ later) h = (n, ap (λ l. Number n ∷ l) (no_more later h.1))
+
+three_naturals : (args : List Meant) → OfKinds (ANatural ∷ ANatural ∷ ANatural ∷ []) None args → (j : ℤ) × (r : ℤ) × (c : ℤ) × (args ≡ Number j ∷ Number r ∷ Number c ∷ [])
+three_naturals [] h = absurd h
+three_naturals (Function f ∷ later) h = absurd h.0
+three_naturals (Position i ∷ later) h = absurd h.0
+three_naturals (Number j ∷ []) h = absurd h.1
+three_naturals (Number j ∷ Function f ∷ later) h = absurd h.1.0
+three_naturals (Number j ∷ Position i ∷ later) h = absurd h.1.0
+three_naturals (Number j ∷ Number r ∷ later) h =
+    let c = one_natural later h.1.1 in
+    (j, r, c.0, ap (λ l. Number j ∷ Number r ∷ l) c.1)
+
+-- the level of a call, and its own rule
+levels_are : (head : Head) (args others : List Meant) → args ≡ others → (exact head others).level ≡ level_by head (first_of (levels others)) (first_of (numbers others))
+    → own_rule head others ≡ unless (has_indices head (exact head others).level (second_of (numbers others)) (third_of (numbers others))) OutOfRange → IsLevelled head args
+levels_are head args others is level own = subst (IsLevelled head) (sym is) (record { level = level; own = own })
+
 pub levelled : (head : Head) (args : List Meant) → OfKinds (signature head).first (signature head).further args → IsLevelled head args
-levelled Const args h = let a = two_numbers args h in subst (IsLevelled Const) (sym a.2) refl
-levelled (One word) args h = let a = one_function args h in subst (IsLevelled (One word)) (sym a.1) refl
-levelled (Fold word) args h = let a = first_of_fold word args h in subst (IsLevelled (Fold word)) (sym a.2) refl
-levelled Ite args h = let a = three_functions args h in subst (IsLevelled Ite) (sym a.3) refl
-levelled Restrict args h = let a = function_position_bit args h in subst (IsLevelled Restrict) (sym a.3) refl
-levelled Exists args h = let a = first_function (AVariable ∷ []) (Some AVariable) args h in subst (IsLevelled Exists) (sym a.2) refl
-levelled Forall args h = let a = first_function (AVariable ∷ []) (Some AVariable) args h in subst (IsLevelled Forall) (sym a.2) refl
-levelled SumOut args h = let a = first_function (AVariable ∷ []) (Some AVariable) args h in subst (IsLevelled SumOut) (sym a.2) refl
-levelled Compose args h = let a = function_position_function args h in subst (IsLevelled Compose) (sym a.3) refl
+levelled Const args h = let a = two_numbers args h in levels_are Const args _ a.2 refl refl
+levelled (One word) args h = let a = one_function args h in levels_are (One word) args _ a.1 refl refl
+levelled (Fold word) args h = let a = first_of_fold word args h in levels_are (Fold word) args _ a.2 refl refl
+levelled Ite args h = let a = three_functions args h in levels_are Ite args _ a.3 refl refl
+levelled Restrict args h = let a = function_position_bit args h in levels_are Restrict args _ a.3 refl refl
+levelled Exists args h = let a = first_function (AVariable ∷ []) (Some AVariable) args h in levels_are Exists args _ a.2 refl refl
+levelled Forall args h = let a = first_function (AVariable ∷ []) (Some AVariable) args h in levels_are Forall args _ a.2 refl refl
+levelled SumOut args h = let a = first_function (AVariable ∷ []) (Some AVariable) args h in levels_are SumOut args _ a.2 refl refl
+levelled Compose args h = let a = function_position_function args h in levels_are Compose args _ a.3 refl refl
 levelled AndExists args h =
     let a = first_function (AnExpression ∷ AVariable ∷ []) (Some AVariable) args h in
     let b = first_function (AVariable ∷ []) (Some AVariable) a.1 a.3 in
-    subst (IsLevelled AndExists) (sym (a.2 ∙ ap (λ l. Function a.0 ∷ l) b.2)) refl
+    levels_are AndExists args _ (a.2 ∙ ap (λ l. Function a.0 ∷ l) b.2) refl refl
+levelled Kron args h = let a = two_functions args h in levels_are Kron args _ a.2 refl refl
+levelled Matmul args h = let a = two_functions args h in levels_are Matmul args _ a.2 refl refl
+levelled Transpose args h = let a = one_function args h in levels_are Transpose args _ a.1 refl refl
+levelled Id args h = let a = one_natural args h in levels_are Id args _ a.1 refl refl
+levelled Walsh args h = let a = one_natural args h in levels_are Walsh args _ a.1 refl refl
+levelled UnitAt args h = let a = three_naturals args h in levels_are UnitAt args _ a.3 refl refl

@@ -9,7 +9,7 @@ use Rattle.cf_pkg.proofs.Valued.{Keeps-same}
 use Rattle.std.proofs.lemmas.List.{take-append-drop, append_assoc, append-nil}
 use Rattle.cf_io.specs.Causes.{Rose}
 use Rattle.cf_io.specs.Shown.{SinkView}
-use Rattle.cf_reference.specs.Trees.{Tree, Statement, Empty, Level, Vars, Let, Load, Value, First, Listed, Equal, Size, Stats}
+use Rattle.cf_reference.specs.Trees.{Tree, Statement, Empty, Level, Vars, Let, Load, Value, First, Listed, Entry, Equal, Size, Stats}
 use Rattle.cf_reference.specs.Reasons.{Taken, NoLevel, Overflow, unless}
 use Rattle.cf_reference.specs.States.{State, Files, is_among}
 use Rattle.cf_reference.specs.States as states
@@ -228,6 +228,7 @@ wants (Load prefix file) e = tt
 wants (Value name bits) e = tt
 wants (First name v) e = tt
 wants (Listed name v most) e = tt
+wants (Entry name row col) e = tt
 wants (Equal name other) e = tt
 wants (Size name) e = tt
 wants Stats e = tt

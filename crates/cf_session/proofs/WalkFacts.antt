@@ -5,6 +5,7 @@ use Rattle.std.specs.List.{list_all}
 use Rattle.std.specs.Option.{option_or}
 use Rattle.std.specs.declared.result.Result.{Result}
 use Rattle.std.proofs.lemmas.Bool.{false≢true}
+use Rattle.std.proofs.lemmas.Option.{none-some}
 use Rattle.std.proofs.lemmas.Bool.Decides.{nat_tests}
 use Rattle.std.proofs.Math.Pow.{pow_mono}
 use Rattle.cf_model.specs.FlatFunctions.{FlatFunction}
@@ -14,14 +15,14 @@ use Rattle.cf_reference.specs.Trees.{Tree, Num, At, Named, Call, Arguments, none
 use Rattle.cf_reference.specs.Trees as tree
 use Rattle.cf_reference.specs.Reasons.{Refusal, NoName, LevelsDiffer, BadLevel, OutOfRange, unless}
 use Rattle.cf_reference.specs.States.{State, level_in, is_below, named, nothing}
-use Rattle.cf_reference.specs.Calls.{Part, flat, Meant, Function, Position, Number, levels, positions, common, are_equal, exact, call_refusal}
+use Rattle.cf_reference.specs.Calls.{Part, flat, Meant, Function, Position, Number, levels, positions, common, are_equal, exact, has_level, own_rule, call_refusal}
 use Rattle.cf_reference.specs.Expressions.{part, walk, walks, walk_atom, meant}
 use Rattle.cf_reference.proofs.ExpressionLaws.{part-Call, meant-none, meant-more, meant-atom, walks-none, walks-more, walks-atom}
 use Rattle.cf_reference.proofs.WalkLaws.{walk-Call-goes, walk-Call-refused}
 use Rattle.cf_reference.proofs.TestFacts.{le_is}
 use Rattle.cf_session.specs.declared.walk.Walked.{Walked}
-use Rattle.cf_session.specs.Arguments.{arguments_of, IsCall, from_place, OfKinds}
-use Rattle.cf_session.specs.Walks.{HasLevel, HasPosition, first_of, agrees, variables_for, numbers, Shows, Notes, level_by, IsLevelled, IsRuled, IsRefused}
+use Rattle.cf_session.specs.Arguments.{arguments_of, from_place, OfKinds}
+use Rattle.cf_session.specs.Walks.{HasLevel, HasPosition, first_of, second_of, third_of, agrees, variables_for, numbers, Shows, Notes, level_by, has_indices, IsLevelled, IsRuled, IsRefused}
 use Rattle.cf_session.proofs.Shapes.{of-formed, levelled}
 
 pub none-is : {A : Type 0} (o : Option A) → IsNone o → o ≡ None
@@ -140,18 +141,20 @@ low-or : (o : Option ℕ) (l : ℕ) → unwrap_or o 0 ≤ 7 → l ≤ 7 → unwr
 low-or None l h k = k
 low-or (Some x) l h k = h
 
-pub shows-none : (v : Walked) → v.common ≡ None → v.equal ≡ true → v.wanted ≡ 0 → v.number ≡ None → Shows v []
-shows-none v c e w n = record {
+pub shows-none : (v : Walked) → v.common ≡ None → v.equal ≡ true → v.wanted ≡ 0 → v.number ≡ None → v.row ≡ None → v.column ≡ None → Shows v []
+shows-none v c e w n r k = record {
   low = (let z : unwrap_or v.common 0 ≡ 0 = ap (λ (o : Option ℕ). unwrap_or o 0) c in omega (arith, z));
   first = c;
   equal = e;
-  wanted = λ k h. sym (ap (λ m. nat_le m k) w ∙ le_true 0 k (omega arith));
+  wanted = λ m h. sym (ap (λ j. nat_le j m) w ∙ le_true 0 m (omega arith));
   number = n;
+  row = r;
+  column = k;
 }
 
-pub shows-function : (w v : Walked) (l : ℕ) → l ≤ 7 → v.common ≡ option_or w.common (Some l) → v.equal ≡ w.equal && agrees w.common l → v.wanted ≡ w.wanted → v.number ≡ w.number
+pub shows-function : (w v : Walked) (l : ℕ) → l ≤ 7 → v.common ≡ option_or w.common (Some l) → v.equal ≡ w.equal && agrees w.common l → v.wanted ≡ w.wanted → v.number ≡ w.number → v.row ≡ w.row → v.column ≡ w.column
     → (f : FlatFunction) → f.level ≡ l → Notes w v (Function f)
-shows-function w v l low c e k n f is args h =
+shows-function w v l low c e k n r o f is args h =
     let grown = levels-push args f ∙ ap (λ m. levels args ++ m ∷ []) is in
     record {
       low = subst (λ (o : Option ℕ). unwrap_or o 0 ≤ 7) (sym c) (low-or w.common l h.low low);
@@ -159,19 +162,56 @@ shows-function w v l low c e k n f is args h =
       equal = e ∙ ap (λ b. b && agrees w.common l) h.equal ∙ ap (λ o. are_equal (levels args) && agrees o l) h.first ∙ sym (equal-push (levels args) l) ∙ ap are_equal (sym grown);
       wanted = λ m few. ap (list_all (λ i. is_below i m)) (positions-kept args (Function f) refl) ∙ h.wanted m few ∙ ap (λ x. nat_le x m) (sym k);
       number = n ∙ h.number ∙ ap first_of (sym (numbers-kept args (Function f) refl));
+      row = r ∙ h.row ∙ ap second_of (sym (numbers-kept args (Function f) refl));
+      column = o ∙ h.column ∙ ap third_of (sym (numbers-kept args (Function f) refl));
     }
 
-pub shows-number : (w v : Walked) (x : ℤ) → v.common ≡ w.common → v.equal ≡ w.equal → v.wanted ≡ w.wanted → v.number ≡ option_or w.number (Some x)
+-- the first three numbers are noted
+abbrev pub AreNoted : Walked → List ℤ → Type 0
+AreNoted w ns = (w.number ≡ first_of ns) × (w.row ≡ second_of ns) × (w.column ≡ third_of ns)
+
+noted-first : (w v : Walked) (x : ℤ) → w.number ≡ None → v.number ≡ Some x → v.row ≡ w.row → v.column ≡ w.column → (ns : List ℤ) → AreNoted w ns → AreNoted v (ns ++ x ∷ [])
+noted-first w v x is n r o [] h = (n, r ∙ h.1, o ∙ h.2)
+noted-first w v x is n r o (a ∷ ns) h = absurd (none-some a (sym is ∙ h.0))
+
+noted-second : (w v : Walked) (x y : ℤ) → w.number ≡ Some y → w.row ≡ None → v.number ≡ w.number → v.row ≡ Some x → v.column ≡ w.column
+    → (ns : List ℤ) → AreNoted w ns → AreNoted v (ns ++ x ∷ [])
+noted-second w v x y is empty n r o [] h = absurd (none-some y (sym h.0 ∙ is))
+noted-second w v x y is empty n r o (a ∷ []) h = (n ∙ h.0, r, o ∙ h.2)
+noted-second w v x y is empty n r o (a ∷ b ∷ ns) h = absurd (none-some b (sym empty ∙ h.1))
+
+noted-third : (w v : Walked) (x y z : ℤ) → w.number ≡ Some y → w.row ≡ Some z → v.number ≡ w.number → v.row ≡ w.row → v.column ≡ option_or w.column (Some x)
+    → (ns : List ℤ) → AreNoted w ns → AreNoted v (ns ++ x ∷ [])
+noted-third w v x y z is next n r o [] h = absurd (none-some y (sym h.0 ∙ is))
+noted-third w v x y z is next n r o (a ∷ []) h = absurd (none-some z (sym h.1 ∙ next))
+noted-third w v x y z is next n r o (a ∷ b ∷ ns) h = (n ∙ h.0, r ∙ h.1, o ∙ ap (λ p. option_or p (Some x)) h.2 ∙ first-push ns x)
+
+shows-number : (w v : Walked) (x : ℤ) → v.common ≡ w.common → v.equal ≡ w.equal → v.wanted ≡ w.wanted → ((ns : List ℤ) → AreNoted w ns → AreNoted v (ns ++ x ∷ []))
     → Notes w v (Number x)
-shows-number w v x c e k n args h =
+shows-number w v x c e k noted args h =
+    let n = subst (AreNoted v) (sym (numbers-push args x)) (noted (numbers args) (h.number, h.row, h.column)) in
     let kept = levels-kept args (Number x) refl in
     record {
       low = subst (λ (o : Option ℕ). unwrap_or o 0 ≤ 7) (sym c) h.low;
       first = c ∙ h.first ∙ ap first_of (sym kept);
       equal = e ∙ h.equal ∙ ap are_equal (sym kept);
       wanted = λ m few. ap (list_all (λ i. is_below i m)) (positions-kept args (Number x) refl) ∙ h.wanted m few ∙ ap (λ y. nat_le y m) (sym k);
-      number = n ∙ ap (λ o. option_or o (Some x)) h.number ∙ first-push (numbers args) x ∙ ap first_of (sym (numbers-push args x));
+      number = n.0;
+      row = n.1;
+      column = n.2;
     }
+
+pub shows-first : (w v : Walked) (x : ℤ) → v.common ≡ w.common → v.equal ≡ w.equal → v.wanted ≡ w.wanted → w.number ≡ None → v.number ≡ Some x → v.row ≡ w.row → v.column ≡ w.column
+    → Notes w v (Number x)
+shows-first w v x c e k is n r o = shows-number w v x c e k (noted-first w v x is n r o)
+
+pub shows-second : (w v : Walked) (x y : ℤ) → v.common ≡ w.common → v.equal ≡ w.equal → v.wanted ≡ w.wanted → w.number ≡ Some y → w.row ≡ None → v.number ≡ w.number → v.row ≡ Some x
+    → v.column ≡ w.column → Notes w v (Number x)
+shows-second w v x y c e k is empty n r o = shows-number w v x c e k (noted-second w v x y is empty n r o)
+
+pub shows-third : (w v : Walked) (x y z : ℤ) → v.common ≡ w.common → v.equal ≡ w.equal → v.wanted ≡ w.wanted → w.number ≡ Some y → w.row ≡ Some z → v.number ≡ w.number → v.row ≡ w.row
+    → v.column ≡ option_or w.column (Some x) → Notes w v (Number x)
+shows-third w v x y z c e k is next n r o = shows-number w v x c e k (noted-third w v x y z is next n r o)
 
 -- a position asks for so many variables
 wants-few : (m n : ℕ) (b : Bool) → n ≤ 128 → nat_lt m 128 ≡ b → nat_lt m n ≡ nat_le (cond b (m + 1) 255) n
@@ -202,9 +242,9 @@ max-second a b v e h = omega (arith, e, h)
 pub max-first : (a b v : ℕ) → v ≡ b → v ≤ a → a ≡ max a b
 max-first a b v e h = omega (arith, e, h)
 
-pub shows-position : (w v : Walked) (i : ℤ) → v.common ≡ w.common → v.equal ≡ w.equal → v.wanted ≡ max w.wanted (variables_for i) → v.number ≡ w.number
+pub shows-position : (w v : Walked) (i : ℤ) → v.common ≡ w.common → v.equal ≡ w.equal → v.wanted ≡ max w.wanted (variables_for i) → v.number ≡ w.number → v.row ≡ w.row → v.column ≡ w.column
     → Notes w v (Position i)
-shows-position w v i c e k n args h =
+shows-position w v i c e k n r o args h =
     let kept = levels-kept args (Position i) refl in
     record {
       low = subst (λ (o : Option ℕ). unwrap_or o 0 ≤ 7) (sym c) h.low;
@@ -215,6 +255,8 @@ shows-position w v i c e k n args h =
           ∙ ap (λ b. b && is_below i m) (h.wanted m few) ∙ ap (λ b. nat_le w.wanted m && b) (wants i m few)
           ∙ both_within w.wanted (variables_for i) m ∙ ap (λ y. nat_le y m) (sym k);
       number = n ∙ h.number ∙ ap first_of (sym (numbers-kept args (Position i) refl));
+      row = r ∙ h.row ∙ ap second_of (sym (numbers-kept args (Position i) refl));
+      column = o ∙ h.column ∙ ap third_of (sym (numbers-kept args (Position i) refl));
     }
 
 -- Arguments were walked up to a place, and none is refused.
@@ -319,35 +361,61 @@ seen-levelled s head all w place h end formed =
     levelled head h.seen
     (subst (OfKinds (signature head).first (signature head).further) (all-seen s head all w place h end).0 (of-formed s head all formed.0 formed.1))
 
--- The rules, by what was noted.
-rules-are : (head : Head) (args : List Meant) (w : Walked) (n l : ℕ) → Shows w args → n ≡ 2 ^ unwrap_or w.common 0 → n ≤ 128 → (exact head args).level ≡ l
-    → call_refusal head args ≡ option_or (unless w.equal LevelsDiffer) (option_or (unless (nat_le w.wanted n) OutOfRange) (unless (nat_le l 7) BadLevel))
-rules-are head args w n l h is few at =
+-- The rules, by what was noted: of the level, and the head's own.
+abbrev last_rules : Head → Walked → ℕ → Option Refusal
+last_rules head w l = option_or (unless (has_level head l) BadLevel) (unless (has_indices head l w.row w.column) OutOfRange)
+
+own-is : (head : Head) (args : List Meant) (w : Walked) (l : ℕ) → Shows w args → IsLevelled head args → (exact head args).level ≡ l
+    → own_rule head args ≡ unless (has_indices head l w.row w.column) OutOfRange
+own-is head args w l h levelled at =
+    levelled.own
+    ∙ ap (λ k. unless (has_indices head k (second_of (numbers args)) (third_of (numbers args))) OutOfRange) at
+    ∙ ap (λ r. unless (has_indices head l r (third_of (numbers args))) OutOfRange) (sym h.row)
+    ∙ ap (λ c. unless (has_indices head l w.row c) OutOfRange) (sym h.column)
+
+rules-are : (head : Head) (args : List Meant) (w : Walked) (n l : ℕ) → Shows w args → IsLevelled head args → n ≡ 2 ^ unwrap_or w.common 0 → n ≤ 128 → (exact head args).level ≡ l
+    → call_refusal head args ≡ option_or (unless w.equal LevelsDiffer) (option_or (unless (nat_le w.wanted n) OutOfRange) (last_rules head w l))
+rules-are head args w n l h levelled is few at =
     let same : 2 ^ common (levels args) ≡ n = ap (λ k. 2 ^ k) (sym (common-first (levels args)) ∙ ap (λ (o : Option ℕ). unwrap_or o 0) (sym h.first)) ∙ sym is in
     let inside = ap (λ k. list_all (λ i. is_below i k) (positions args)) same ∙ h.wanted n few in
-    ap (λ b. option_or (unless b LevelsDiffer) (option_or (unless (list_all (λ i. is_below i (2 ^ common (levels args))) (positions args)) OutOfRange) (unless (nat_le (exact head args).level 7) BadLevel))) (sym h.equal)
-    ∙ ap (λ b. option_or (unless w.equal LevelsDiffer) (option_or (unless b OutOfRange) (unless (nat_le (exact head args).level 7) BadLevel))) inside
-    ∙ ap (λ k. option_or (unless w.equal LevelsDiffer) (option_or (unless (nat_le w.wanted n) OutOfRange) (unless (nat_le k 7) BadLevel))) at
+    let placed = list_all (λ i. is_below i (2 ^ common (levels args))) (positions args) in
+    let ranged = has_level head (exact head args).level in
+    ap (λ b. option_or (unless b LevelsDiffer) (option_or (unless placed OutOfRange) (option_or (unless ranged BadLevel) (own_rule head args)))) (sym h.equal)
+    ∙ ap (λ b. option_or (unless w.equal LevelsDiffer) (option_or (unless b OutOfRange) (option_or (unless ranged BadLevel) (own_rule head args)))) inside
+    ∙ ap (λ o. option_or (unless w.equal LevelsDiffer) (option_or (unless (nat_le w.wanted n) OutOfRange) (option_or (unless ranged BadLevel) o))) (own-is head args w l h levelled at)
+    ∙ ap (λ k. option_or (unless w.equal LevelsDiffer) (option_or (unless (nat_le w.wanted n) OutOfRange) (option_or (unless (has_level head k) BadLevel) (unless (has_indices head l w.row w.column) OutOfRange)))) at
 
-pub level-is : (head : Head) (args : List Meant) (w : Walked) (l : ℕ) → Shows w args → IsLevelled head args → l ≡ level_by w.common w.number
+pub level-is : (head : Head) (args : List Meant) (w : Walked) (l : ℕ) → Shows w args → IsLevelled head args → l ≡ level_by head w.common w.number
     → (exact head args).level ≡ l
 level-is head args w l h levelled is =
-    levelled ∙ ap (λ o. level_by o (first_of (numbers args))) (sym h.first) ∙ ap (level_by w.common) (sym h.number) ∙ sym is
+    levelled.level ∙ ap (λ o. level_by head o (first_of (numbers args))) (sym h.first) ∙ ap (level_by head w.common) (sym h.number) ∙ sym is
 
-pub out-of-range : (head : Head) (args : List Meant) (w : Walked) (n l : ℕ) → Shows w args → n ≡ 2 ^ unwrap_or w.common 0 → n ≤ 128 → (exact head args).level ≡ l
+pub out-of-range : (head : Head) (args : List Meant) (w : Walked) (n l : ℕ) → Shows w args → IsLevelled head args → n ≡ 2 ^ unwrap_or w.common 0 → n ≤ 128 → (exact head args).level ≡ l
     → w.equal ≡ true → nat_le w.wanted n ≡ false → call_refusal head args ≡ Some OutOfRange
-out-of-range head args w n l h is few at e past =
-    rules-are head args w n l h is few at
-    ∙ ap (λ b. option_or (unless b LevelsDiffer) (option_or (unless (nat_le w.wanted n) OutOfRange) (unless (nat_le l 7) BadLevel))) e
-    ∙ ap (λ b. option_or (unless b OutOfRange) (unless (nat_le l 7) BadLevel)) past
+out-of-range head args w n l h levelled is few at e past =
+    rules-are head args w n l h levelled is few at
+    ∙ ap (λ b. option_or (unless b LevelsDiffer) (option_or (unless (nat_le w.wanted n) OutOfRange) (last_rules head w l))) e
+    ∙ ap (λ b. option_or (unless b OutOfRange) (last_rules head w l)) past
 
-pub by-level : (head : Head) (args : List Meant) (w : Walked) (n l : ℕ) (b : Bool) → Shows w args → n ≡ 2 ^ unwrap_or w.common 0 → n ≤ 128 → (exact head args).level ≡ l
-    → w.equal ≡ true → nat_le w.wanted n ≡ true → nat_le l 7 ≡ b → call_refusal head args ≡ unless b BadLevel
-by-level head args w n l b h is few at e within ranged =
-    rules-are head args w n l h is few at
-    ∙ ap (λ t. option_or (unless t LevelsDiffer) (option_or (unless (nat_le w.wanted n) OutOfRange) (unless (nat_le l 7) BadLevel))) e
-    ∙ ap (λ t. option_or (unless t OutOfRange) (unless (nat_le l 7) BadLevel)) within
-    ∙ ap (λ t. unless t BadLevel) ranged
+by-level : (head : Head) (args : List Meant) (w : Walked) (n l : ℕ) → Shows w args → IsLevelled head args → n ≡ 2 ^ unwrap_or w.common 0 → n ≤ 128 → (exact head args).level ≡ l
+    → w.equal ≡ true → nat_le w.wanted n ≡ true → call_refusal head args ≡ last_rules head w l
+by-level head args w n l h levelled is few at e within =
+    rules-are head args w n l h levelled is few at
+    ∙ ap (λ t. option_or (unless t LevelsDiffer) (option_or (unless (nat_le w.wanted n) OutOfRange) (last_rules head w l))) e
+    ∙ ap (λ t. option_or (unless t OutOfRange) (last_rules head w l)) within
+
+pub bad-level : (head : Head) (args : List Meant) (w : Walked) (n l : ℕ) → Shows w args → IsLevelled head args → n ≡ 2 ^ unwrap_or w.common 0 → n ≤ 128 → (exact head args).level ≡ l
+    → w.equal ≡ true → nat_le w.wanted n ≡ true → has_level head l ≡ false → call_refusal head args ≡ Some BadLevel
+bad-level head args w n l h levelled is few at e within ranged =
+    by-level head args w n l h levelled is few at e within
+    ∙ ap (λ t. option_or (unless t BadLevel) (unless (has_indices head l w.row w.column) OutOfRange)) ranged
+
+pub by-indices : (head : Head) (args : List Meant) (w : Walked) (n l : ℕ) (b : Bool) → Shows w args → IsLevelled head args → n ≡ 2 ^ unwrap_or w.common 0 → n ≤ 128
+    → (exact head args).level ≡ l → w.equal ≡ true → nat_le w.wanted n ≡ true → has_level head l ≡ true → has_indices head l w.row w.column ≡ b → call_refusal head args ≡ unless b OutOfRange
+by-indices head args w n l b h levelled is few at e within ranged there =
+    by-level head args w n l h levelled is few at e within
+    ∙ ap (λ t. option_or (unless t BadLevel) (unless (has_indices head l w.row w.column) OutOfRange)) ranged
+    ∙ ap (λ t. unless t OutOfRange) there
 
 -- the tests of `ruled`
 pub not-false : (b : Bool) → not b ≡ false → b ≡ true
@@ -363,35 +431,21 @@ past-end wanted n h = le_false wanted n h
 pub within-end : (wanted n : ℕ) → wanted ≤ n → nat_le wanted n ≡ true
 within-end wanted n h = le_true wanted n h
 
-pub high-level : (l : ℕ) → 7 < l → nat_le l 7 ≡ false
-high-level l h = le_false l 7 h
-
-pub low-level : (l : ℕ) → l ≤ 7 → nat_le l 7 ≡ true
-low-level l h = le_true l 7 h
-
 -- a call as a whole
 pub whole-level : (s : State) (head : Head) (t : Tree) (all : Arguments) (w : Walked) (place l : ℕ) (h : Walking s head all w place) → t ≡ Call head all → IsFormed t → place ≡ count all
-    → IsRuled w l → HasLevel s t l
+    → IsRuled head w l → HasLevel s t l
 whole-level s head t all w place l h is formed end ruled =
-    subst (λ (u : Tree). HasLevel s u l) (sym is) (call-level s head all w place l h end (ruled head h.seen h.shows (seen-levelled s head all w place h end (subst IsFormed is formed))))
+    subst (λ (u : Tree). HasLevel s u l) (sym is) (call-level s head all w place l h end (ruled h.seen h.shows (seen-levelled s head all w place h end (subst IsFormed is formed))))
 
 pub whole-refused : (s : State) (head : Head) (t : Tree) (all : Arguments) (w : Walked) (place : ℕ) (r : Refusal) (h : Walking s head all w place) → t ≡ Call head all → IsFormed t → place ≡ count all
-    → IsRefused w r → walk s t ≡ Some r
+    → IsRefused head w r → walk s t ≡ Some r
 whole-refused s head t all w place r h is formed end ruled =
-    ap (walk s) is ∙ call-refused s head all w place r h end (ruled head h.seen h.shows (seen-levelled s head all w place h end (subst IsFormed is formed)))
+    ap (walk s) is ∙ call-refused s head all w place r h end (ruled h.seen h.shows (seen-levelled s head all w place h end (subst IsFormed is formed)))
 
--- The arguments of a call were walked up to a place.
-pub record WalkingCall (s : State) (t : Tree) (w : Walked) (place : ℕ) : Type 0 where
-  pub head : Head
-  pub is_call : t ≡ Call head (arguments_of t)
-  pub walking : Walking s head (arguments_of t) w place
-
-pub walking-call : (s : State) (t : Tree) (w : Walked) → IsCall t → IsFormed t → Shows w [] → WalkingCall s t w 0
-walking-call s t w call formed h = record {
-  head = call.0;
-  is_call = call.1;
-  walking = walking-none s call.0 (arguments_of t) w h (subst IsFormed call.1 formed).1;
-}
+-- the arguments of a call before its first one
+pub walking-call : (s : State) (head : Head) (t : Tree) (w : Walked) → t ≡ Call head (arguments_of t) → IsFormed t → Shows w [] → Walking s head (arguments_of t) w 0
+walking-call s head t w call formed h =
+    walking-none s head (arguments_of t) w h (subst IsFormed call formed).1
 
 -- an expression among the arguments is formed
 pub walking-formed : (s : State) (head : Head) (all : Arguments) (w : Walked) (place : ℕ) (e : Tree) → Walking s head all w place

@@ -10,7 +10,7 @@ use Rattle.cf_pkg.specs.Packages.{Package, IsRemembered}
 use Rattle.cf_pkg.specs.Jobs.{AnswersFinished}
 use Rattle.cf_restrict.specs.Quantified.{AreQuantified, IsComposed, IsJoined}
 use Rattle.cf_reference.specs.declared.grammar.Head.{Head}
-use Rattle.cf_reference.specs.declared.grammar.Head.TheVariants.{Const, One, Fold, Ite, Restrict, Exists, Forall, SumOut, Compose, AndExists}
+use Rattle.cf_reference.specs.declared.grammar.Head.TheVariants.{Const, One, Fold, Ite, Restrict, Exists, Forall, SumOut, Compose, AndExists, Kron, Matmul, Transpose, Id, Walsh, Unit as UnitAt}
 use Rattle.cf_reference.specs.Trees.{Tree, Num, At, Named, Call, Arguments, none, more, atom}
 use Rattle.cf_reference.specs.Calls as means
 use Rattle.cf_reference.specs.Reasons.{NoLevel, unless}
@@ -27,7 +27,8 @@ use Rattle.cf_session.specs.Walks.{HasPosition}
 
 -- An expression is built by these jobs, in reading order: a number or `const` is `Const`; `@i` is `Var`; `not` and `neg`
 -- are `Map` with the word's tree; each step of a fold is `Apply` with the word's tree; `ite` is `Ternary` with the
--- choice's tree; `restrict` is `Restrict`. `exists`, `forall` and `sumout` are for each variable in turn both
+-- choice's tree; `restrict` is `Restrict`; `kron`, `matmul`, `transpose`, `id`, `walsh` and `unit` are the jobs of these
+-- names. `exists`, `forall` and `sumout` are for each variable in turn both
 -- restrictions, and `Apply` with the tree of `or`, `and` or `plus`; `andexists` is `Apply` with the tree of `and`, and
 -- then as `exists`; `compose` is both restrictions and `Ternary` with the choice's tree. A name has none. The jobs are
 -- taken in a session: level and positions are those of the session's state, a name's function is the one that it stands
@@ -41,6 +42,13 @@ call_task (One word) (Function f ∷ []) = Some (task.Map (of_one word) f)
 call_task (Fold word) (Function f ∷ Function g ∷ []) = Some (task.Apply (of_two word) f g)
 call_task Ite (Function f ∷ Function g ∷ Function h ∷ []) = Some (task.Ternary of_three f g h)
 call_task Restrict (Function f ∷ Position i ∷ Number b ∷ []) = Some (task.Restrict f (nat_abs i) (is_true b))
+call_task Kron (Function f ∷ Function g ∷ []) = Some (task.Kron f g)
+call_task Matmul (Function f ∷ Function g ∷ []) = Some (task.Matmul f g)
+call_task Transpose (Function f ∷ []) = Some (task.Transpose f)
+call_task Id (Number level ∷ []) = Some (task.Id (nat_abs level))
+call_task Walsh (Number level ∷ []) = Some (task.Walsh (nat_abs level))
+call_task UnitAt (Number level ∷ Number row ∷ Number col ∷ []) =
+    Some (task.UnitAt (nat_abs level) (nat_abs row) (nat_abs col))
 call_task head others = None
 
 -- The job of a head on values is remembered, with this function, or each of its jobs, with this function at the end.

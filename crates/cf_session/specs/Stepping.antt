@@ -2,7 +2,7 @@ use Rattle.std.specs.Prelude.{◌≡◌, ◌<◌, ◌≤◌, ℕ, Bool, true, fa
 use Rattle.std.specs.Prelude.{Result, Ok, Err}
 use Rattle.cf_io.specs.Causes.{Rose}
 use Rattle.cf_io.specs.Shown.{FilesView, SinkView, FilesAreTold}
-use Rattle.cf_reference.specs.Trees.{Statement, Empty, Level, Load, Value, First}
+use Rattle.cf_reference.specs.Trees.{Statement, Empty, Level, Load, Value, First, Entry}
 use Rattle.cf_reference.specs.Carrying.{Outcome, Refuses, Goes}
 use Rattle.cf_reference.specs.States.{State}
 use Rattle.cf_reference.specs.Loading.{file_limit}
@@ -77,6 +77,7 @@ NeedsNoMemory Empty = Unit {0}
 NeedsNoMemory (Level k) = Unit {0}
 NeedsNoMemory (Value name bits) = Unit {0}
 NeedsNoMemory (First name v) = Unit {0}
+NeedsNoMemory (Entry name row col) = Unit {0}
 NeedsNoMemory others = ⊥
 
 -- The text was written.

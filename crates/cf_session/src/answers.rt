@@ -7,7 +7,7 @@ ghost use Rattle.cf_pkg.specs.Packages.{OwnsFunction, Keeps, meaning};
 ghost use Rattle.cf_pkg.specs.Jobs.{AreLevel};
 ghost use Rattle.cf_reference.specs.States.{named};
 ghost use Rattle.cf_reference.specs.Answers.{spelled, equal_answer, list_reply};
-ghost use Rattle.cf_reference.specs.Carrying.{Refuses, Goes, lists, tell_value, tell_first, tell_list, tell_equal, tell_size, tell_stats};
+ghost use Rattle.cf_reference.specs.Carrying.{Refuses, Goes, lists, tell_value, tell_first, tell_list, tell_entry, tell_equal, tell_size, tell_stats};
 ghost use Rattle.cf_session.specs.Building.{Grows};
 ghost use Rattle.cf_session.specs.Faults.{reason_of};
 ghost use Rattle.cf_session.specs.Sessions.{state_of};
@@ -15,6 +15,7 @@ ghost use Rattle.cf_session.specs.Statements.{IsFaultOfStep, IsNamed, IsUnknown}
 
 use crate::faults::{Refusal, StepFault};
 use crate::session::Session;
+use crate::walk::is_index;
 use cf_bits::Bits;
 use cf_names::NoMemory;
 use cf_pkg::{Func, Pkg, variables};
@@ -113,6 +114,32 @@ impl Session {
             return Err(Refusal::OutOfRange);
         };
         value_text(value_there::<Brand>(&self.pkg, f, at, Blank::new(1)), text);
+        Ok(())
+    }
+
+    /// Makes the text the entry of a matrix in a row and a column. It takes no memory.
+    pub(crate) fn entry(
+        &self,
+        name: &[u8],
+        row: i128,
+        column: i128,
+        text: &mut Text,
+    ) -> Result<(), Refusal>
+        requires set { IsSome self.now.level }
+        ensures goes { OnOk result (tell_entry (state_of self.now) name.now row column ≡ Goes (state_of self.now) text.new) }
+        ensures refused { IfErr result (λ r. tell_entry (state_of self.now) name.now row column ≡ Refuses (reason_of r)) }
+    {
+        let f = self.ask(name)?;
+        let level = f.head.level;
+        if level == 0 {
+            return Err(Refusal::BadLevel);
+        }
+        if !is_index(level, row) || !is_index(level, column) {
+            return Err(Refusal::OutOfRange);
+        }
+        let row = row.unsigned_abs() as u64;
+        let column = column.unsigned_abs() as u64;
+        value_text(cf_kron::entry(&self.pkg, f, row, column), text);
         Ok(())
     }
 

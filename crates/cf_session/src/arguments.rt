@@ -46,6 +46,12 @@ pub(crate) fn form_of<'e, 'a>(expr: &'e Expr<'a>) -> Form<'e, 'a>
         Expr::SumOut(..) => Form::Call(Head::SumOut),
         Expr::Compose(..) => Form::Call(Head::Compose),
         Expr::AndExists(..) => Form::Call(Head::AndExists),
+        Expr::Kron(..) => Form::Call(Head::Kron),
+        Expr::Matmul(..) => Form::Call(Head::Matmul),
+        Expr::Transpose(_) => Form::Call(Head::Transpose),
+        Expr::Id(_) => Form::Call(Head::Id),
+        Expr::Walsh(_) => Form::Call(Head::Walsh),
+        Expr::Unit(..) => Form::Call(Head::Unit),
     }
 }
 
@@ -56,10 +62,10 @@ pub(crate) fn arity(expr: &Expr) -> usize
 {
     match expr {
         Expr::Num(_) | Expr::At(_) | Expr::Named(_) => 0,
-        Expr::One(..) => 1,
-        Expr::Const(..) => 2,
+        Expr::One(..) | Expr::Transpose(_) | Expr::Id(_) | Expr::Walsh(_) => 1,
+        Expr::Const(..) | Expr::Kron(..) | Expr::Matmul(..) => 2,
         Expr::Fold(_, es) | Expr::Ite(es) => es.items().len(),
-        Expr::Restrict(..) | Expr::Compose(..) => 3,
+        Expr::Restrict(..) | Expr::Compose(..) | Expr::Unit(..) => 3,
         Expr::Exists(_, vars) => vars.items().len() + 1,
         Expr::Forall(_, vars) => vars.items().len() + 1,
         Expr::SumOut(_, vars) => vars.items().len() + 1,
@@ -105,6 +111,22 @@ pub(crate) fn argument<'e, 'a>(expr: &'e Expr<'a>, place: usize) -> Given<'e, 'a
         Expr::AndExists(e, f, vars) => match place {
             0 => Given::Expr(e),
             _ => quantified(f, vars, place - 1),
+        },
+        Expr::Kron(e, f) => match place {
+            0 => Given::Expr(e),
+            _ => Given::Expr(f),
+        },
+        Expr::Matmul(e, f) => match place {
+            0 => Given::Expr(e),
+            _ => Given::Expr(f),
+        },
+        Expr::Transpose(e) => Given::Expr(e),
+        Expr::Id(level) => Given::Number(*level),
+        Expr::Walsh(level) => Given::Number(*level),
+        Expr::Unit(level, row, column) => match place {
+            0 => Given::Number(*level),
+            1 => Given::Number(*row),
+            _ => Given::Number(*column),
         },
         Expr::Num(_) | Expr::At(_) | Expr::Named(_) => unreachable!(),
     }

@@ -312,6 +312,12 @@ impl Session {
             Head::SumOut => self.sum_out(args),
             Head::Compose => self.compose(args),
             Head::AndExists => self.and_exists(args),
+            Head::Kron => self.kron(args),
+            Head::Matmul => self.matmul(args),
+            Head::Transpose => self.transpose(args),
+            Head::Id => self.identity(args),
+            Head::Walsh => self.walsh(args),
+            Head::Unit => self.unit(args),
         }
     }
 }

@@ -8,6 +8,7 @@ mod build;
 pub mod faults;
 mod files;
 mod load;
+mod matrices;
 mod over;
 mod recall;
 mod session;

@@ -14,7 +14,7 @@ use cf_script::Expr;
 
 impl Session {
     /// The function of an expression each job of which is finished, where the look-ups find it. None
-    /// says nothing. Calls over variables aren't looked up.
+    /// says nothing. Calls over variables and of matrices aren't looked up.
     #[inline(always)]
     #[cycle(recall)]
     pub(crate) fn recall(&self, expr: &Expr<'_>) -> Option<Func>
@@ -44,6 +44,8 @@ impl Session {
             Expr::Ite(es) => self.recall_choice(es.items()),
             Expr::Restrict(..) | Expr::Exists(..) | Expr::Forall(..) => None,
             Expr::SumOut(..) | Expr::Compose(..) | Expr::AndExists(..) => None,
+            Expr::Kron(..) | Expr::Matmul(..) | Expr::Transpose(_) => None,
+            Expr::Id(_) | Expr::Walsh(_) | Expr::Unit(..) => None,
         }
     }
 

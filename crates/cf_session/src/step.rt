@@ -233,6 +233,9 @@ impl Session {
             }
             Statement::First(name, v) => answer_always(self.first(name, *v, text), text, out),
             Statement::List(name, v, most) => self.step_list(name, *v, *most, text, out),
+            Statement::Entry(name, row, column) => {
+                answer_always(self.entry(name, *row, *column, text), text, out)
+            }
             Statement::Equal(name, other) => answer(self.equal(name, other, text), text, out),
             Statement::Size(name) => answer(self.size(name, text), text, out),
             Statement::Stats => answer(self.stats(text), text, out),

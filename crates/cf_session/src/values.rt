@@ -38,6 +38,32 @@ pub(crate) fn two_numbers(args: &[Value]) -> (i128, i128)
 }
 
 #[inline(always)]
+pub(crate) fn one_number(args: &[Value]) -> i128
+    requires { AreOf (Kind.Natural ∷ []) None args.now }
+    ensures { args.now ≡ Value.Number result ∷ [] }
+{
+    match args {
+        [Value::Number(n)] => *n,
+        _ => unreachable!(),
+    }
+}
+
+#[inline(always)]
+pub(crate) fn three_numbers(args: &[Value]) -> (i128, i128, i128)
+    requires { AreOf (Kind.Natural ∷ Kind.Natural ∷ Kind.Natural ∷ []) None args.now }
+    ensures { args.now ≡ Value.Number result.0 ∷ Value.Number result.1 ∷ Value.Number result.2 ∷ [] }
+{
+    match args {
+        [
+            Value::Number(first),
+            Value::Number(second),
+            Value::Number(third),
+        ] => { (*first, *second, *third) }
+        _ => unreachable!(),
+    }
+}
+
+#[inline(always)]
 pub(crate) fn one_function(args: &[Value]) -> Func
     requires { AreOf (Kind.Expression ∷ []) None args.now }
     ensures { args.now ≡ Value.Function result ∷ [] }

@@ -1,22 +1,23 @@
 //! The level of an expression, and its first refusal.
 
-ghost use Rattle.std.specs.Prelude.{◌≡◌, ◌≤◌, [], Some, IfOk, IfErr, unwrap_or};
+ghost use Rattle.std.specs.Prelude.{◌≡◌, ◌≤◌, ◌-◌, ◌^◌, [], true, Some, IfOk, IfErr, pos, unwrap_or};
 ghost use Rattle.cf_model.specs.FlatFunctions.{FlatFunction};
-ghost use Rattle.cf_reference.specs.Calls.{Function, Position, Number};
+ghost use Rattle.cf_reference.specs.Calls.{Function, Position, Number, least, has_level, is_index};
 ghost use Rattle.cf_reference.specs.States.{level_in, is_below};
-ghost use Rattle.cf_reference.specs.Trees.{At, Named, IsFormed};
+ghost use Rattle.cf_reference.specs.Trees.{At, Named, Call, IsFormed};
 ghost use Rattle.cf_reference.specs.Expressions.{walk, walk_atom};
 ghost use Rattle.cf_script.specs.Vars.{atom_of};
 ghost use Rattle.cf_script.specs.Views.{tree_of};
-ghost use Rattle.cf_session.specs.Arguments.{IsCall};
+ghost use Rattle.cf_session.specs.Arguments.{arguments_of};
 ghost use Rattle.cf_session.specs.Sessions.{state_of};
 ghost use Rattle.cf_session.specs.Faults.{reason_of};
-ghost use Rattle.cf_session.specs.Walks.{HasLevel, HasPosition, Shows, Notes, IsRuled, IsRefused, level_by, agrees, variables_for};
+ghost use Rattle.cf_session.specs.Walks.{HasLevel, HasPosition, Shows, Notes, IsRuled, IsRefused, level_over, level_by, has_index, has_indices, agrees, variables_for};
 
 use crate::arguments::{Form, Given, argument, arity, form_of};
 use crate::faults::Refusal;
 use crate::session::Session;
 use cf_pkg::variables;
+use cf_reference::grammar::Head;
 use cf_script::{Expr, Var};
 
 /// What the arguments of a call tell of it, read from the left.
@@ -28,8 +29,10 @@ pub(crate) struct Walked {
     equal: bool,
     /// How many variables there must be for the positions; 255 stands for more than any level has.
     wanted: u8,
-    /// The first number.
+    /// The first number, the second and the third.
     number: Option<i128>,
+    row: Option<i128>,
+    column: Option<i128>,
 }
 
 impl Walked {
@@ -43,6 +46,8 @@ impl Walked {
             equal: true,
             wanted: 0,
             number: None,
+            row: None,
+            column: None,
         }
     }
 
@@ -80,18 +85,30 @@ impl Walked {
     fn number(self, n: i128) -> Walked
         ensures { Notes self result (Number n) }
     {
-        Walked {
-            number: self.number.or(Some(n)),
-            ..self
+        match self.number {
+            None => Walked {
+                number: Some(n),
+                ..self
+            },
+            Some(_) => match self.row {
+                None => Walked {
+                    row: Some(n),
+                    ..self
+                },
+                Some(_) => Walked {
+                    column: self.column.or(Some(n)),
+                    ..self
+                },
+            },
         }
     }
 
-    /// The level of the call: that of the first function, or else the first number.
-    fn call_level(self) -> u128
-        ensures { result ≡ level_by self.common self.number }
+    /// The level of a call of the head: by that of the first function, or else the first number.
+    fn call_level(self, head: Head) -> u128
+        ensures { result ≡ level_by head self.common self.number }
     {
         match self.common {
-            Some(level) => u128::from(level),
+            Some(level) => level_over(head, level),
             None => match self.number {
                 Some(n) => n.unsigned_abs(),
                 None => 0,
@@ -99,22 +116,36 @@ impl Walked {
         }
     }
 
-    /// The level of the call, or the first rule that it breaks.
+    /// Whether the row and the column that the head asks for are in the matrices of the level.
+    fn has_indices(self, head: Head, level: u8) -> bool
+        requires least { least head ≤ level }
+        requires most { level ≤ 7 }
+        ensures { result ≡ has_indices head level self.row self.column }
+    {
+        match head {
+            Head::Unit => has_index(level, self.row) && has_index(level, self.column),
+            _ => true,
+        }
+    }
+
+    /// The level of a call of the head, or the first rule that it breaks.
     #[inline(always)]
-    fn ruled(self) -> Result<u8, Refusal>
+    fn ruled(self, head: Head) -> Result<u8, Refusal>
         requires low { unwrap_or self.common 0 ≤ 7 }
-        ensures level { IfOk result (IsRuled self) }
+        ensures level { IfOk result (IsRuled head self) }
         ensures low { IfOk result (λ l. l ≤ 7) }
-        ensures refused { IfErr result (λ r. IsRefused self (reason_of r)) }
+        ensures refused { IfErr result (λ r. IsRefused head self (reason_of r)) }
     {
         let common = self.common.unwrap_or(0);
-        let level = self.call_level();
+        let level = self.call_level(head);
         if !self.equal {
             Err(Refusal::LevelsDiffer)
         } else if variables(common) < self.wanted {
             Err(Refusal::OutOfRange)
-        } else if 7 < level {
+        } else if !has_level(head, level) {
             Err(Refusal::BadLevel)
+        } else if !self.has_indices(head, level as u8) {
+            Err(Refusal::OutOfRange)
         } else {
             Ok(level as u8)
         }
@@ -143,8 +174,8 @@ impl Session {
             Form::Num(_) => Ok(self.level_of_variables()),
             Form::At(i) => self.walk_at(i),
             Form::Named(name) => self.walk_named(name),
-            Form::Nested(..) => self.walk_call(expr),
-            Form::Call(_) => self.walk_call(expr),
+            Form::Nested(head, _) => self.walk_call(head, expr),
+            Form::Call(head) => self.walk_call(head, expr),
         }
     }
 
@@ -195,8 +226,8 @@ impl Session {
 
     /// The level of a call: its arguments from left to right, and then its rules.
     #[cycle(walk)]
-    fn walk_call(&self, call: &Expr) -> Result<u8, Refusal>
-        requires is_call { IsCall (tree_of call.now) }
+    fn walk_call(&self, head: Head, call: &Expr) -> Result<u8, Refusal>
+        requires is_call { tree_of call.now ≡ Call head (arguments_of (tree_of call.now)) }
         requires formed { IsFormed (tree_of call.now) }
         ensures level { IfOk result (HasLevel (state_of self.now) (tree_of call.now)) }
         ensures low { IfOk result (λ l. l ≤ 7) }
@@ -216,7 +247,7 @@ impl Session {
                 Given::Number(n) => walked.number(n),
             };
         }
-        walked.ruled()
+        walked.ruled(head)
     }
 }
 
@@ -241,5 +272,72 @@ fn agrees(first: Option<u8>, level: u8) -> bool
     match first {
         Some(first) => level == first,
         None => true,
+    }
+}
+
+/// The level of a call of functions of a level.
+fn level_over(head: Head, level: u8) -> u128
+    ensures { result ≡ level_over head level }
+{
+    match head {
+        Head::Kron => u128::from(level) + 1,
+        _ => u128::from(level),
+    }
+}
+
+/// The least level of a call.
+fn least(head: Head) -> u128
+    ensures { result ≡ least head }
+{
+    match head {
+        Head::Matmul | Head::Transpose | Head::Id | Head::Walsh | Head::Unit => 1,
+        _ => 0,
+    }
+}
+
+/// Whether a call may have a level.
+fn has_level(head: Head, level: u128) -> bool
+    ensures is { result ≡ has_level head level }
+    ensures least { result ≡ true → least head ≤ level }
+    ensures most { result ≡ true → level ≤ 7 }
+{
+    least(head) <= level && level <= 7
+}
+
+/// Whether a row or a column, if there is one, is in the matrices of a level.
+fn has_index(level: u8, i: Option<i128>) -> bool
+    requires some { 1 ≤ level }
+    requires most { level ≤ 7 }
+    ensures { result ≡ has_index level i }
+{
+    match i {
+        Some(i) => is_index(level, i),
+        None => true,
+    }
+}
+
+/// Whether a number is that of a row of the matrices of a level.
+pub(crate) fn is_index(level: u8, i: i128) -> bool
+    requires some { 1 ≤ level }
+    requires most { level ≤ 7 }
+    ensures { result ≡ is_index level i }
+{
+    0 <= i && i < rows(level)
+}
+
+/// How many rows the matrices of a level have.
+fn rows(level: u8) -> i128
+    requires some { 1 ≤ level }
+    requires most { level ≤ 7 }
+    ensures { result ≡ pos (2 ^ (2 ^ (level - 1))) }
+{
+    match level {
+        1 => 2,
+        2 => 4,
+        3 => 16,
+        4 => 256,
+        5 => 65_536,
+        6 => 4_294_967_296,
+        _ => 18_446_744_073_709_551_616,
     }
 }

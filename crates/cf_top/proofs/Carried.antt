@@ -2,7 +2,7 @@
 use Rattle.std.proofs.Common.{ℕ, ◌≡◌, List, ap, sym, ◌∙◌, subst, arith}
 use Rattle.std.proofs.lemmas.Bool.{false≢true}
 use Rattle.cf_io.specs.Shown.{FilesView, FilesAreTold}
-use Rattle.cf_reference.specs.Trees.{Statement, Empty, Level, Vars, Let, Load, Value, First, Listed, Equal, Size, Stats}
+use Rattle.cf_reference.specs.Trees.{Statement, Empty, Level, Vars, Let, Load, Value, Entry, First, Listed, Equal, Size, Stats}
 use Rattle.cf_reference.specs.States.{State, Files}
 use Rattle.cf_reference.specs.LineRefusals.{Parsed, Parses}
 use Rattle.cf_reference.specs.Parsing.{parse}
@@ -33,6 +33,7 @@ told_for files (Level k) told = tt
 told_for files (Vars names) told = tt
 told_for files (Let name e) told = tt
 told_for files (Value name bits) told = tt
+told_for files (Entry name row column) told = tt
 told_for files (First name v) told = tt
 told_for files (Listed name v most) told = tt
 told_for files (Equal name other) told = tt

@@ -1,12 +1,11 @@
 -- What one turn of the loop over a script's lines comes to.
-use Rattle.std.proofs.Common.{ℕ, ◌≡◌, ◌+◌, ◌≤◌, ◌<◌, Bool, true, false, List, [], ◌∷◌, length, IsTrue, refl, ap, sym, ◌∙◌, subst, arith, cond}
+use Rattle.std.proofs.Common.{ℕ, ◌≡◌, ◌+◌, ◌≤◌, ◌<◌, Bool, true, false, List, [], ◌∷◌, length, IsTrue, refl, ap, sym, ◌∙◌, subst, arith}
 use Rattle.std.proofs.lemmas.Bool.{false≢true}
 use Rattle.cf_reference.specs.Lines.{Line, Fit, Fits, LineTooLong, ScriptTooLong, fit, known_by, size, lines}
 use Rattle.cf_reference.specs.Parsing.{parse}
-use Rattle.cf_reference.specs.States.{State, Files, initial}
+use Rattle.cf_reference.specs.States.{State, Files}
 use Rattle.cf_reference.specs.Carrying.{Outcome, Refuses, Goes}
-use Rattle.cf_reference.specs.Scripts.{state_of, refuses, Done, Refused, Usage, Ending, run_lines, carry, carry_fitting, step_parsed, ref, is_run}
-use Rattle.cf_reference.specs.Replies.{usage_reply}
+use Rattle.cf_reference.specs.Scripts.{state_of, refuses, Done, Refused, Usage, Ending, run_lines, carry, carry_fitting, step_parsed}
 use Rattle.cf_reference.proofs.ScriptLaws.{carry-fit}
 use Rattle.cf_io.specs.Held.{Held, taken_by}
 use Rattle.cf_io.specs.LineSteps.{HandsOut, IsFirst, BeginsTooLong, Moves, Advances, answer_of}
@@ -94,10 +93,6 @@ line_moved held kept from upto result line advances is =
 -- what was taken since the beginning
 pub taken_since : (entry from upto old new : ℕ) → entry + old ≡ from → new + from ≡ old + upto → entry + new ≡ upto
 taken_since entry from upto old new h k = omega arith
-
--- other words than `run`
-pub ref-others : (files : Files) (words : List (List ℕ)) (script : List ℕ) → is_run words ≡ false → ref files words script ≡ record { text = usage_reply; close = Usage; state = initial; read = 0 }
-ref-others files words script h = ap (λ b. cond b (run_lines files initial 1 0 (lines script)) (record { text = usage_reply; close = Usage; state = initial; read = 0 })) h
 
 pub end_answered : (held kept : Held) (old new : List ℕ) (result : Next) → HandsOut held old kept new (answer_of result) → result ≡ next.End → (old ≡ []) × (new ≡ [])
 end_answered held kept old new result hands is = subst (λ r. HandsOut held old kept new (answer_of r)) is hands

@@ -1,3 +1,4 @@
+pub mod Asked
 pub mod Views
 pub mod Ends
 pub mod Carrying

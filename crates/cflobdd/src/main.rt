@@ -1,5 +1,5 @@
-//! The program: a script from standard input, circuits from the files of the current folder, replies to standard output, and an
-//! exit status.
+//! The program: a script from standard input or of a seed, circuits from the files of the current
+//! folder, replies to standard output, and an exit status.
 #![tactic(auto)]
 
 use cf_io::{HostFiles, HostSink, HostSource};

@@ -10,7 +10,7 @@ use Rattle.cf_circuit.proofs.covers.+of_planes.Goals as goal
 pub of_planes-requires : goal.of_planes-requires
 of_planes-requires g c =
     let long = ap length c.in-Some.ensures.cases.0 in
-    let wide = subst (λ (ps : List ℕ). All (IsWide c.args.planes.now c.args.width) ps) (sym c.as_slice.ensures.value) c.in_ok-parts.ensures.wide_others in
+    let wide = subst (λ (ps : List ℕ). All (IsWide c.args.planes.now c.args.width) ps) (sym c.as_slice.ensures) c.in_ok-parts.ensures.wide_others in
     let at = wires_at c.args.pkg.now c.args.pkg.now c.args.truths.now c.args.wires.now c.in-Some.later.now c.in-Some.wire.now c.in-Some.ensures.cases.0 (Keeps-same c.args.pkg.now) c.requires.at in
     let fits : length c.in-Some.later.now ≤ c.args.width = omega (arith, long, c.requires.fits) in
     let falls : length c.in-Some.later.now < length c.args.wires.now = omega (arith, long) in
@@ -19,7 +19,7 @@ of_planes-requires g c =
 pub of_planes-requires-2 : goal.of_planes-requires-2
 of_planes-requires-2 g c =
     let long = ap length c.in-Some.ensures.cases.0 in
-    let wide = subst (λ (ps : List ℕ). All (IsWide c.args.planes.now c.args.width) ps) (sym c.as_slice-2.ensures.value) c.in_ok-parts.ensures.wide_ones in
+    let wide = subst (λ (ps : List ℕ). All (IsWide c.args.planes.now c.args.width) ps) (sym c.as_slice-2.ensures) c.in_ok-parts.ensures.wide_ones in
     let at = wires_at c.args.pkg.now c.of_planes.new.pkg c.args.truths.now c.args.wires.now c.in-Some.later.now c.in-Some.wire.now c.in-Some.ensures.cases.0 c.of_planes.ensures.kept c.requires.at in
     let fits : length c.in-Some.later.now ≤ c.args.width = omega (arith, long, c.requires.fits) in
     let falls : length c.in-Some.later.now < length c.args.wires.now = omega (arith, long) in
@@ -28,7 +28,7 @@ of_planes-requires-2 g c =
 pub of_planes-requires-3 : goal.of_planes-requires-3
 of_planes-requires-3 g c =
     let long = ap length c.in-Some.ensures.cases.0 in
-    let wide = subst (λ (ps : List ℕ). All (IsWide c.args.planes.now c.args.width) ps) (sym c.as_slice-3.ensures.value) c.in_ok-parts.ensures.wide_zeros in
+    let wide = subst (λ (ps : List ℕ). All (IsWide c.args.planes.now c.args.width) ps) (sym c.as_slice-3.ensures) c.in_ok-parts.ensures.wide_zeros in
     let at = wires_at c.args.pkg.now c.of_planes-2.new.pkg c.args.truths.now c.args.wires.now c.in-Some.later.now c.in-Some.wire.now c.in-Some.ensures.cases.0 (Keeps-trans c.args.pkg.now c.of_planes.new.pkg c.of_planes-2.new.pkg c.of_planes.ensures.kept c.of_planes-2.ensures.kept) c.requires.at in
     let fits : length c.in-Some.later.now ≤ c.args.width = omega (arith, long, c.requires.fits) in
     let falls : length c.in-Some.later.now < length c.args.wires.now = omega (arith, long) in
@@ -56,9 +56,9 @@ pub returns-clause-told : goal.returns-clause-told
 returns-clause-told g c =
     let input = c.args.width - length c.args.wires.now in
     let parts : AreParted c.args.planes.now c.args.width input c.args.places.now c.as_slice-3.result.now c.as_slice-2.result.now c.as_slice.result.now =
-    subst (λ (zs : List ℕ). AreParted c.args.planes.now c.args.width input c.args.places.now zs c.as_slice-2.result.now c.as_slice.result.now) (sym c.as_slice-3.ensures.value)
-    (subst (λ (os : List ℕ). AreParted c.args.planes.now c.args.width input c.args.places.now c.in_ok-parts.parts.zeros.items os c.as_slice.result.now) (sym c.as_slice-2.ensures.value)
-    (subst (λ (ns : List ℕ). AreParted c.args.planes.now c.args.width input c.args.places.now c.in_ok-parts.parts.zeros.items c.in_ok-parts.parts.ones.items ns) (sym c.as_slice.ensures.value)
+    subst (λ (zs : List ℕ). AreParted c.args.planes.now c.args.width input c.args.places.now zs c.as_slice-2.result.now c.as_slice.result.now) (sym c.as_slice-3.ensures)
+    (subst (λ (os : List ℕ). AreParted c.args.planes.now c.args.width input c.args.places.now c.in_ok-parts.parts.zeros.items os c.as_slice.result.now) (sym c.as_slice-2.ensures)
+    (subst (λ (ns : List ℕ). AreParted c.args.planes.now c.args.width input c.args.places.now c.in_ok-parts.parts.zeros.items c.in_ok-parts.parts.ones.items ns) (sym c.as_slice.ensures)
     c.in_ok-parts.ensures)) in
     if_ok c.either.result (TellsEither c.choice.new.pkg c.either.new.pkg c.in_ok-always.always c.in_ok-by_wire.by_wire)
     (TellsPlanes c.args.pkg.now c.either.new.pkg c.args.planes.now c.args.width c.args.places.now c.args.truths.now c.args.wires.now)

@@ -15,5 +15,5 @@ pub returns-clause-told : goal.returns-clause-told
 returns-clause-told c =
     if_ok c.not.result (TellsNot c.of_planes.new.pkg c.not.new.pkg c.in_ok-matched.matched) (TellsCover c.args.pkg.now c.not.new.pkg c.args.cover.now c.args.truths.now c.args.wires.now)
     (cover_off c.args.pkg.now c.of_planes.new.pkg c.not.new.pkg c.args.cover.now c.items-planes.result.now c.in_ok-places.places.items c.as_slice.result.now c.args.truths.now c.args.wires.now
-    c.in_ok-matched.matched c.items-planes.ensures c.as_slice.ensures.value c.in_ok-places.ensures c.in_ok-matched.ensures.told c.if-cover.false)
+    c.in_ok-matched.matched c.items-planes.ensures c.as_slice.ensures c.in_ok-places.ensures c.in_ok-matched.ensures.told c.if-cover.false)
     c.not.ensures.told

@@ -15,3 +15,9 @@ decreases-spell_over g l = 3 * l.depth + 2
 
 abbrev pub decreases-spell_list : goal.decreases-spell_list
 decreases-spell_list g l = 3 * l.depth + 1
+
+abbrev pub decreases-spell_one : goal.decreases-spell_one
+decreases-spell_one g l = 3 * l.depth + 2
+
+abbrev pub decreases-spell_two : goal.decreases-spell_two
+decreases-spell_two g l = 3 * l.depth + 2

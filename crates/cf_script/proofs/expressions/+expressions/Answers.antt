@@ -120,33 +120,33 @@ pub gather-returns-in-None-clause-only : goal.gather-returns-in-None-clause-only
 gather-returns-in-None-clause-only t c = λ e.
     no-end c.args.head c.loop-more.invariant.ends.0 (words c.args.text.now) (words c.loop-more.end.now) c.loop-more.invariant.ends.2 c.in_default.ensures.none c.in-None.ensures.none
 
-pub read_list-returns-in_err-first-clause-only : goal.read_list-returns-in_err-first-clause-only
-read_list-returns-in_err-first-clause-only t c = λ e.
+pub gather_list-returns-in_err-first-clause-only : goal.gather_list-returns-in_err-first-clause-only
+gather_list-returns-in_err-first-clause-only t c = λ e.
     no-next c.args.head 0 (words c.args.text.now) (words c.args.text.now) (words c.args.text.now) (ends-none c.args.head (words c.args.text.now)) refl
-    (listed-none c.args.head 0 (words c.args.text.now) c.requires
-    (c.in_err-first.ensures.only (ap Err (sym (handed-on _ Malformed c.from_residual-in_err-first.result c.from_residual-in_err-first.ensures.1 e)))))
+    (listed-none c.args.head 0 (words c.args.text.now) c.requires.list
+    (c.in_err-first.ensures.only (ap Err (sym (handed-on _ Malformed c.from_residual.result c.from_residual.ensures.1 e)))))
 
-pub read_list-loop-more-init : goal.read_list-loop-more-init
-read_list-loop-more-init t c =
+pub gather_list-loop-more-init : goal.gather_list-loop-more-init
+gather_list-loop-more-init t c =
     let all = words c.args.text.now in
     let end = words c.in_ok-first.end.now in
-    let is = pushed-listed _ _ c.in_ok-first.first c.in_ok-push.ensures.ok ∙ ap (λ xs. as_arguments xs ++ argument.Expr c.in_ok-first.first ∷ []) c.in_ok-es.ensures in
-    let read = listed-read c.args.head 0 c.in_ok-first.first all end c.requires c.in_ok-first.ensures.found in
+    let is = pushed-listed _ _ c.in_ok-first.first c.in_ok-push.ensures.ok ∙ ap (λ xs. as_arguments xs ++ argument.Expr c.in_ok-first.first ∷ []) c.requires.none in
+    let read = listed-read c.args.head 0 c.in_ok-first.first all end c.requires.list c.in_ok-first.ensures.found in
     record {
       shorter = c.in_ok-first.ensures.shorter;
       front = front-more c.args.head [] _ _ all all all end is (front-none c.args.head [] all refl) refl read;
       ends = (0, ap length is, ends-more c.args.head 0 _ all all all end (ends-none c.args.head all) refl read);
     }
 
-pub read_list-returns-in_err-e-clause-only : goal.read_list-returns-in_err-e-clause-only
-read_list-returns-in_err-e-clause-only t c = λ e.
+pub gather_list-returns-in_err-e-clause-only : goal.gather_list-returns-in_err-e-clause-only
+gather_list-returns-in_err-e-clause-only t c = λ e.
     let kept = c.loop-more.invariant in
     no-next c.args.head (suc kept.ends.0) (words c.args.text.now) (words c.loop-more.end.now) (words c.in-Some.more.now) kept.ends.2 c.in-Some.ensures.found
-    (listed-none c.args.head (suc kept.ends.0) (words c.in-Some.more.now) c.requires
+    (listed-none c.args.head (suc kept.ends.0) (words c.in-Some.more.now) c.requires.list
     (c.in_err-e.ensures.only (ap Err (sym (handed-on _ Malformed c.from_residual-in_err-e.result c.from_residual-in_err-e.ensures.1 e)))))
 
-pub read_list-loop-more-preserved : goal.read_list-loop-more-preserved
-read_list-loop-more-preserved t c =
+pub gather_list-loop-more-preserved : goal.gather_list-loop-more-preserved
+gather_list-loop-more-preserved t c =
     let kept = c.loop-more.invariant in
     let first = as_arguments c.loop-more.es.items.items in
     let all = words c.args.text.now in
@@ -158,46 +158,42 @@ read_list-loop-more-preserved t c =
       shorter = omega (arith, kept.shorter, c.in_ok-e.ensures.shorter, c.in-Some.ensures.shorter);
       front = front-more c.args.head first _ _ all end after rest is kept.front
           (subst (λ n. end ≡ lead n ++ after) (sym kept.ends.1) c.in-Some.ensures.found)
-          (listed-read c.args.head (length first) c.in_ok-e.e after rest c.requires c.in_ok-e.ensures.found);
+          (listed-read c.args.head (length first) c.in_ok-e.e after rest c.requires.list c.in_ok-e.ensures.found);
       ends = (
         suc kept.ends.0,
         pushed-length kept.ends.0 first _ _ is kept.ends.1,
         ends-more c.args.head (suc kept.ends.0) _ all end after rest kept.ends.2 c.in-Some.ensures.found
-            (listed-read c.args.head (suc kept.ends.0) c.in_ok-e.e after rest c.requires c.in_ok-e.ensures.found),
+            (listed-read c.args.head (suc kept.ends.0) c.in_ok-e.e after rest c.requires.list c.in_ok-e.ensures.found),
       );
     }
 
-pub read_list-returns-then-takes-clause-found : goal.read_list-returns-then-takes-clause-found
-read_list-returns-then-takes-clause-found t c =
+pub gather_list-returns-then-takes-clause-found : goal.gather_list-returns-then-takes-clause-found
+gather_list-returns-then-takes-clause-found t c =
     let es = c.loop-more.es.items.items in
-    record {
-      arguments = as_arguments es;
-      read = front-whole c.args.head c.loop-more.invariant.ends.0 (as_arguments es) (words c.args.text.now) (words c.loop-more.end.now) (words c.in-Some-after.rest.now)
-          c.loop-more.invariant.ends.1 c.loop-more.invariant.front c.in-Some-after.ensures.found
-          (ap (takes c.args.head) (as_many es ∙ sym (ap length c.items.ensures)) ∙ sym c.takes.ensures ∙ c.if-takes.true);
-      same = c.list_call.ensures;
-    }
+    front-whole c.args.head c.loop-more.invariant.ends.0 (as_arguments es) (words c.args.text.now) (words c.loop-more.end.now) (words c.in-Some-after.rest.now)
+    c.loop-more.invariant.ends.1 c.loop-more.invariant.front c.in-Some-after.ensures.found
+    (ap (takes c.args.head) (as_many es ∙ sym (ap length c.items.ensures)) ∙ sym c.takes.ensures ∙ c.if-takes.true)
 
-pub read_list-returns-in-Some-after-clause-only : goal.read_list-returns-in-Some-after-clause-only
-read_list-returns-in-Some-after-clause-only t c = λ e.
+pub gather_list-returns-else-takes-clause-only : goal.gather_list-returns-else-takes-clause-only
+gather_list-returns-else-takes-clause-only t c = λ e.
     let many = as_many c.loop-more.es.items.items in
     other-number c.args.head c.loop-more.invariant.ends.0 (words c.args.text.now) (words c.loop-more.end.now) c.loop-more.invariant.ends.2 c.in_default.ensures.none
     (ap (takes c.args.head) (sym c.loop-more.invariant.ends.1 ∙ many ∙ sym (ap length c.items.ensures)) ∙ sym c.takes.ensures ∙ c.if-takes.false)
 
-pub read_list-returns-clause-only : goal.read_list-returns-clause-only
-read_list-returns-clause-only t c = λ e.
+pub gather_list-returns-in-None-clause-only : goal.gather_list-returns-in-None-clause-only
+gather_list-returns-in-None-clause-only t c = λ e.
     no-end c.args.head c.loop-more.invariant.ends.0 (words c.args.text.now) (words c.loop-more.end.now) c.loop-more.invariant.ends.2 c.in_default.ensures.none c.in-None.ensures.none
 
-pub read_over-returns-in_err-first-clause-only : goal.read_over-returns-in_err-first-clause-only
-read_over-returns-in_err-first-clause-only t c = λ e.
+pub gather_over-returns-in_err-first-clause-only : goal.gather_over-returns-in_err-first-clause-only
+gather_over-returns-in_err-first-clause-only t c = λ e.
     no-next c.args.head 0 (words c.args.text.now) (words c.args.text.now) (words c.args.text.now) (ends-none c.args.head (words c.args.text.now)) refl
     (subst (λ (k : Kind). SpellsNoArgument k (words c.args.text.now)) c.kind_at.ensures (c.in_err-first.ensures.only (ap Err (sym (handed-on _ Malformed c.from_residual.result c.from_residual.ensures.1 e)))))
 
-pub read_over-loop-more-init : goal.read_over-loop-more-init
-read_over-loop-more-init t c =
+pub gather_over-loop-more-init : goal.gather_over-loop-more-init
+gather_over-loop-more-init t c =
     let all = words c.args.text.now in
     let end = words c.in_ok-first.end.now in
-    let is = c.in_ok-push.ensures ∙ ap (λ xs. xs ++ c.in_ok-first.first ∷ []) c.new-args.ensures in
+    let is = c.in_ok-push.ensures ∙ ap (λ xs. xs ++ c.in_ok-first.first ∷ []) c.requires.none in
     let read = subst (λ (k : Kind). IsArgument k c.in_ok-first.first all end) c.kind_at.ensures c.in_ok-first.ensures.found in
     record {
       shorter = c.in_ok-first.ensures.shorter;
@@ -205,16 +201,16 @@ read_over-loop-more-init t c =
       ends = (0, ap length is, ends-more c.args.head 0 c.in_ok-first.first all all all end (ends-none c.args.head all) refl read);
     }
 
-pub read_over-returns-in_err-argument-clause-only : goal.read_over-returns-in_err-argument-clause-only
-read_over-returns-in_err-argument-clause-only t c = λ e.
+pub gather_over-returns-in_err-argument-clause-only : goal.gather_over-returns-in_err-argument-clause-only
+gather_over-returns-in_err-argument-clause-only t c = λ e.
     let kept = c.loop-more.invariant in
     let kind = c.kind_at-in-Some.ensures ∙ ap (kind_at c.args.head) (c.len.ensures ∙ kept.ends.1) in
     no-next c.args.head (suc kept.ends.0) (words c.args.text.now) (words c.loop-more.end.now) (words c.in-Some.more.now) kept.ends.2 c.in-Some.ensures.found
     (subst (λ (k : Kind). SpellsNoArgument k (words c.in-Some.more.now)) kind
     (c.in_err-argument.ensures.only (ap Err (sym (handed-on _ Malformed c.from_residual-in_err-argument.result c.from_residual-in_err-argument.ensures.1 e)))))
 
-pub read_over-loop-more-preserved : goal.read_over-loop-more-preserved
-read_over-loop-more-preserved t c =
+pub gather_over-loop-more-preserved : goal.gather_over-loop-more-preserved
+gather_over-loop-more-preserved t c =
     let kept = c.loop-more.invariant in
     let all = words c.args.text.now in
     let end = words c.loop-more.end.now in
@@ -234,36 +230,32 @@ read_over-loop-more-preserved t c =
       );
     }
 
-pub read_over-push-requires : goal.read_over-push-requires
-read_over-push-requires t c =
+pub gather_over-push-requires : goal.gather_over-push-requires
+gather_over-push-requires t c =
     let read = subst (λ (k : Kind). IsArgument k c.in_ok-first.first (words c.args.text.now) (words c.in_ok-first.end.now)) c.kind_at.ensures c.in_ok-first.ensures.found in
-    first-follows c.args.head c.new-args.result c.in_ok-first.first c.requires c.new-args.ensures read.kinds
+    first-follows c.args.head c.args.args.now c.in_ok-first.first c.requires.over c.requires.none read.kinds
 
-pub read_over-push-requires-in-Some : goal.read_over-push-requires-in-Some
-read_over-push-requires-in-Some t c =
+pub gather_over-push-requires-in-Some : goal.gather_over-push-requires-in-Some
+gather_over-push-requires-in-Some t c =
     let kind = c.kind_at-in-Some.ensures ∙ ap (kind_at c.args.head) (c.len.ensures) in
     let read = subst (λ (k : Kind). IsArgument k c.in_ok-argument.argument (words c.in-Some.more.now) (words c.in_ok-argument.rest.now)) kind c.in_ok-argument.ensures.found in
-    follows c.args.head c.loop-more.args c.in_ok-argument.argument c.requires c.loop-more.invariant.front.kinds read.kinds
+    follows c.args.head c.loop-more.args c.in_ok-argument.argument c.requires.over c.loop-more.invariant.front.kinds read.kinds
 
-pub read_over-over_call-requires-clause-kinds : goal.read_over-over_call-requires-clause-kinds
-read_over-over_call-requires-clause-kinds t c =
-    of-kinds c.args.head (over c.loop-more.args) (sym (c.takes.ensures ∙ ap (takes c.args.head) (c.len-in-Some-after.ensures)) ∙ c.if-takes.true)
-    c.loop-more.invariant.front.kinds
+pub gather_over-returns-then-takes-clause-found : goal.gather_over-returns-then-takes-clause-found
+gather_over-returns-then-takes-clause-found t c =
+    front-whole c.args.head c.loop-more.invariant.ends.0 (over c.loop-more.args) (words c.args.text.now) (words c.loop-more.end.now) (words c.in-Some-after.rest.now)
+    c.loop-more.invariant.ends.1 c.loop-more.invariant.front c.in-Some-after.ensures.found
+    (sym (c.takes.ensures ∙ ap (takes c.args.head) (c.len-in-Some-after.ensures)) ∙ c.if-takes.true)
 
-pub read_over-returns-then-takes-clause-found : goal.read_over-returns-then-takes-clause-found
-read_over-returns-then-takes-clause-found t c = record {
-  arguments = over c.loop-more.args;
-  read = front-whole c.args.head c.loop-more.invariant.ends.0 (over c.loop-more.args) (words c.args.text.now) (words c.loop-more.end.now) (words c.in-Some-after.rest.now)
-      c.loop-more.invariant.ends.1 c.loop-more.invariant.front c.in-Some-after.ensures.found
-      (sym (c.takes.ensures ∙ ap (takes c.args.head) (c.len-in-Some-after.ensures)) ∙ c.if-takes.true);
-  same = c.in_ok-over_call-in-Some-after.ensures;
-}
-
-pub read_over-returns-in-Some-after-clause-only : goal.read_over-returns-in-Some-after-clause-only
-read_over-returns-in-Some-after-clause-only t c = λ e.
+pub gather_over-returns-else-takes-clause-only : goal.gather_over-returns-else-takes-clause-only
+gather_over-returns-else-takes-clause-only t c = λ e.
     other-number c.args.head c.loop-more.invariant.ends.0 (words c.args.text.now) (words c.loop-more.end.now) c.loop-more.invariant.ends.2 c.in_default.ensures.none
     (sym (c.takes.ensures ∙ ap (takes c.args.head) (c.len-in-Some-after.ensures ∙ c.loop-more.invariant.ends.1)) ∙ c.if-takes.false)
 
-pub read_over-returns-clause-only : goal.read_over-returns-clause-only
-read_over-returns-clause-only t c = λ e.
+pub gather_over-returns-in-None-clause-only : goal.gather_over-returns-in-None-clause-only
+gather_over-returns-in-None-clause-only t c = λ e.
     no-end c.args.head c.loop-more.invariant.ends.0 (words c.args.text.now) (words c.loop-more.end.now) c.loop-more.invariant.ends.2 c.in_default.ensures.none c.in-None.ensures.none
+
+pub read_over-over_call-requires-clause-kinds : goal.read_over-over_call-requires-clause-kinds
+read_over-over_call-requires-clause-kinds t c =
+    of-kinds c.args.head (over c.gather_over.new.args) c.in-Ok.ensures.found.number c.in-Ok.ensures.found.kinds

@@ -15,8 +15,8 @@ returns-then-has_wide_number c =
     (subst (IsReading c.in-Ok.e (words c.in-Some.text.now)) (c.has_ended.ensures.0 c.if-not-has_ended.false) c.in-Ok.ensures.found)
     (sym c.has_wide_number.ensures ∙ c.if-has_wide_number.true)
 
-pub returns-in-Ok : goal.returns-in-Ok
-returns-in-Ok c =
+pub returns-else-has_wide_number : goal.returns-else-has_wide_number
+returns-else-has_wide_number c =
     let-good c.args.text.now c.in-Some.name.now c.in-Ok.e (words c.args.text.now) (words c.in-Some.text.now) c.in-Some.ensures.found
     (subst (IsReading c.in-Ok.e (words c.in-Some.text.now)) (c.has_ended.ensures.0 c.if-not-has_ended.false) c.in-Ok.ensures.found)
     (sym c.has_wide_number.ensures ∙ c.if-has_wide_number.false)

@@ -162,3 +162,27 @@ returns-in-Ite-clause-again c =
 pub returns-in-Restrict-clause-again : goal.returns-in-Restrict-clause-again
 returns-in-Restrict-clause-again c =
     subst (λ (d : Head). AnswersCall c.args.self.now c.restrict.new.self d c.args.args.now c.restrict.result) (sym c.in-Restrict.is) c.restrict.ensures.again
+
+pub returns-in-Kron-clause-again : goal.returns-in-Kron-clause-again
+returns-in-Kron-clause-again c =
+    subst (λ (d : Head). AnswersCall c.args.self.now c.kron.new.self d c.args.args.now c.kron.result) (sym c.in-Kron.is) c.kron.ensures.again
+
+pub returns-in-Matmul-clause-again : goal.returns-in-Matmul-clause-again
+returns-in-Matmul-clause-again c =
+    subst (λ (d : Head). AnswersCall c.args.self.now c.matmul.new.self d c.args.args.now c.matmul.result) (sym c.in-Matmul.is) c.matmul.ensures.again
+
+pub returns-in-Transpose-clause-again : goal.returns-in-Transpose-clause-again
+returns-in-Transpose-clause-again c =
+    subst (λ (d : Head). AnswersCall c.args.self.now c.transpose.new.self d c.args.args.now c.transpose.result) (sym c.in-Transpose.is) c.transpose.ensures.again
+
+pub returns-in-Id-clause-again : goal.returns-in-Id-clause-again
+returns-in-Id-clause-again c =
+    subst (λ (d : Head). AnswersCall c.args.self.now c.identity.new.self d c.args.args.now c.identity.result) (sym c.in-Id.is) c.identity.ensures.again
+
+pub returns-in-Walsh-clause-again : goal.returns-in-Walsh-clause-again
+returns-in-Walsh-clause-again c =
+    subst (λ (d : Head). AnswersCall c.args.self.now c.walsh.new.self d c.args.args.now c.walsh.result) (sym c.in-Walsh.is) c.walsh.ensures.again
+
+pub returns-in-Unit-clause-again : goal.returns-in-Unit-clause-again
+returns-in-Unit-clause-again c =
+    subst (λ (d : Head). AnswersCall c.args.self.now c.unit.new.self d c.args.args.now c.unit.result) (sym c.in-Unit.is) c.unit.ensures.again

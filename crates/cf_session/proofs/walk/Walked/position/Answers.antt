@@ -8,9 +8,9 @@ use Rattle.cf_session.proofs.walk.Walked.position.Goals as goal
 pub returns-then-wanted-self : goal.returns-then-wanted-self
 returns-then-wanted-self c =
     shows-position c.args.self _ c.args.i refl refl
-    (max-second c.args.self.wanted (variables_for c.args.i) c.variables_for-wanted.result (c.variables_for-wanted.ensures ∙ ap variables_for (to_z-of_z w128 c.args.i c.ranges.i)) c.if-wanted-self.true) refl
+    (max-second c.args.self.wanted (variables_for c.args.i) c.variables_for-wanted.result (c.variables_for-wanted.ensures ∙ ap variables_for (to_z-of_z w128 c.args.i c.ranges.i)) c.if-wanted-self.true) refl refl refl
 
 pub returns-else-wanted-self : goal.returns-else-wanted-self
 returns-else-wanted-self c =
     shows-position c.args.self _ c.args.i refl refl
-    (max-first c.args.self.wanted (variables_for c.args.i) c.variables_for-wanted.result (c.variables_for-wanted.ensures ∙ ap variables_for (to_z-of_z w128 c.args.i c.ranges.i)) c.if-wanted-self.false) refl
+    (max-first c.args.self.wanted (variables_for c.args.i) c.variables_for-wanted.result (c.variables_for-wanted.ensures ∙ ap variables_for (to_z-of_z w128 c.args.i c.ranges.i)) c.if-wanted-self.false) refl refl refl
